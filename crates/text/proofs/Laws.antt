@@ -5,7 +5,7 @@ use Prim.Native.Nat.{ℕ, zero, suc, _+_, _-_, _*_, _/_, _%_, _^_, _≤_, _<_}
 use native.Mathlib.Nat.{add-zero, mod-one, pow-suc, one-le-pow}
 use native.Mathlib.Numerals.{add-one}
 use native.Mathlib.Omega.{arith}
-use lib.ListN.{length, getD, take, drop, set, length-append, length-drop, drop-of-length-le}
+use lib.ListN.{length, getD, take, drop, set, length-append, length-drop, drop-of-length-le, take-append-drop}
 use lib.Arith.{mod-mul}
 use lib.Seq.{sets, set-out, set-comm, take-all, drop-cons}
 use Rattle.text.specs.Digits.{digits, number}
@@ -32,7 +32,16 @@ module _ {A : Type 0} where
   sets-part (suc i) [] vs = sets-out [] 0 vs (omega arith) ∙ sym (sets-out [] (suc i) vs (omega arith))
   sets-part (suc i) (x ∷ l) vs = ap (λ k. x ∷ k) (sets-part i l vs) ∙ sym (sets-behind x l i vs)
 
-  -- the same, as the part to the end comes back from the function it was lent to
+  -- what stands there already changes nothing
+  sets-front : (n : ℕ) (l : List A) → sets l 0 (take n l) ≡ l
+  sets-front zero l = refl
+  sets-front (suc n) [] = refl
+  sets-front (suc n) (x ∷ l) = sets-behind x l 0 (take n l) ∙ ap (λ k. x ∷ k) (sets-front n l)
+
+  pub sets-same : (i n : ℕ) (l : List A) → sets l i (take n (drop i l)) ≡ l
+  sets-same i n l = sym (sets-part i l (take n (drop i l))) ∙ rw (sets-front n (drop i l)) (take-append-drop i l)
+
+  -- the part to the end, as it comes back from the function it was lent to
   pub part-back : (i : ℕ) (l part vs : List A) → part ≡ sets (take (length l - i) (drop i l)) 0 vs
       → take i l ++ (part ++ drop (length l - i) (drop i l)) ≡ sets l i vs
   part-back i l part vs e =

@@ -1,0 +1,24 @@
+use mathlib.Core.Path.{sym}
+use denote.Ref.{now}
+use native.Mathlib.Omega.{arith}
+use lib.ListN.{List·getD-eq-default}
+use borrow.Author.Needs.{needs}
+use Rattle.wire.proofs.reading.first.Statement.{statement}
+use Rattle.wire.proofs.reading.first.Tie as tie
+use Rattle.wire.proofs.reading.first.Reads as reads
+use Rattle.wire.proofs.reading.first.Lts as lts
+
+-- src/reading.rt:55:9
+returns : tie.Need-returns
+returns c = sym (List·getD-eq-default (now (c .before .args .bytes)) 0 {n = 0} (omega arith))
+
+-- src/reading.rt:57:5
+shared-slice-read-result : tie.Need-shared-slice-read-result
+shared-slice-read-result c = search needs
+
+-- src/reading.rt:51:1
+returns-2 : tie.Need-returns-2
+returns-2 c = search needs
+
+pub first-spec : {M : Type 1} → statement M
+first-spec = tie.close (tie.spec returns shared-slice-read-result returns-2)

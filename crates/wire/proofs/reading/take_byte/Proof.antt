@@ -1,0 +1,116 @@
+use mathlib.Core.Bool.{true, false}
+use mathlib.Core.List.{[]}
+use Prim.Native.Nat.{_<_}
+use lib.ListN.{length, take}
+use borrow.Author.Tests.{not-true, not-false}
+use Rattle.wire.specs.Reading.{inside, dataCount, readOther}
+use Rattle.wire.specs.Replies.{takenOf}
+use Rattle.wire.proofs.Suits.{behind-small}
+use Rattle.wire.proofs.Steps.{place-in, place-out}
+use mathlib.Core.Path.{_≡_, refl, sym, ap, _∙_}
+use native.Mathlib.Omega.{arith}
+use denote.Ref.{now}
+use Rattle.wire.specs.Replies.{placeOf}
+use Rattle.wire.proofs.Steps.{reads, read-start, read-other, starts}
+use borrow.Author.Needs.{needs}
+use Rattle.wire.proofs.reading.take_byte.Statement.{statement}
+use Rattle.wire.proofs.reading.take_byte.Tie as tie
+use Rattle.wire.proofs.reading.take_byte.Reads as reads
+use Rattle.wire.proofs.reading.take_byte.Lts as lts
+use Rattle.wire.proofs.reading.first.Reads as first-reads
+use Rattle.wire.proofs.reading.fresh.Reads as fresh-reads
+use Rattle.wire.proofs.reading.started.Reads as started-reads
+use Rattle.wire.proofs.reading.take_behind.Reads as take-behind-reads
+use Rattle.wire.proofs.reading.take_len.Reads as take-len-reads
+use Rattle.wire.proofs.suit.data_count.Reads as data-count-reads
+
+-- src/reading.rt:32:9
+first-requires : tie.Need-first-requires
+first-requires c κs = search needs
+
+-- src/reading.rt:36:9
+started-requires : tie.Need-started-requires
+started-requires c κs = search needs
+
+-- src/reading.rt:36:9
+returns : tie.Need-returns
+returns c =
+    let s = c .before .before .before .before .before in
+    let a = s .args in
+    let size : length (now (a .array)) ≡ 256 = omega arith in
+    reads (now (a .array)) _ _ _ _
+    (read-start (a .kind) (placeOf (a .reader) (now (a .array))) (a .b) (c .before .if1 .taken))
+    (c .started .ensures ∙ ap (λ e. takenOf (record { place = inside 0 []; event = e })) (sym (starts (a .reader) (now (a .array)) size)))
+    refl
+
+-- src/reading.rt:40:21
+fresh-requires : tie.Need-fresh-requires
+fresh-requires c κs = search needs
+
+-- src/reading.rt:39:9
+returns-2 : tie.Need-returns-2
+returns-2 c =
+    let s = c .before .before .before .before .before .before in
+    let a = s .args in
+    reads (now (a .array)) _ _ _ _
+    (read-other (a .kind) (placeOf (a .reader) (now (a .array))) (a .b) (c .before .before .if1 .left)
+    ∙ ap (λ p. readOther (a .kind) p (a .b)) (place-out (a .reader) (now (a .array)) (not-true _ (c .before .if2 .taken))))
+    (rw (c .fresh .ensures)) refl
+
+-- src/reading.rt:45:9
+take-len-requires : tie.Need-take-len-requires
+take-len-requires c κs = search needs
+
+-- src/reading.rt:45:9
+returns-3 : tie.Need-returns-3
+returns-3 c =
+    let s = c .before .before .before .before .before .before .before .before in
+    let a = s .args in
+    reads (now (a .array)) _ _ _ _
+    (read-other (a .kind) (placeOf (a .reader) (now (a .array))) (a .b) (c .before .before .before .before .if1 .left)
+    ∙ ap (λ p. readOther (a .kind) p (a .b)) (place-in (a .reader) (now (a .array)) (not-false _ (c .before .before .before .if2 .left)))
+    ∙ ap (λ n. readOther (a .kind) (inside (a .reader .sum) (take n (now (a .array)))) (a .b)) (c .before .before .if3 .taken))
+    (c .take-len .ensures .0) (c .take-len .ensures .1)
+
+-- src/reading.rt:47:23
+data-count-requires : tie.Need-data-count-requires
+data-count-requires c κs = search needs
+
+-- src/reading.rt:47:5
+take-behind-requires : tie.Need-take-behind-requires
+take-behind-requires c κs =
+    let s = c .before .before .before .before .before .before .before .before in
+    let a = s .args in
+    let d = c .before .data-count in
+    let size : length (now (a .array)) ≡ 256 = omega arith in
+    record {
+      some = omega arith;
+      announced = d .ensures ∙ ap (dataCount (a .kind)) (c .before .before .before .before .before .first .ensures);
+      small = omega (arith, behind-small (a .kind), d .ensures, c .before .before .before .before .before .first .ok);
+      size = size
+    }
+
+-- src/reading.rt:28:1
+returns-4 : tie.Need-returns-4
+returns-4 c =
+    let s = c .before .before .before .before .before .before .before .before .before in
+    let a = s .args in
+    reads (now (a .array)) _ _ _ _
+    (read-other (a .kind) (placeOf (a .reader) (now (a .array))) (a .b) (c .before .before .before .before .before .if1 .left)
+    ∙ ap (λ p. readOther (a .kind) p (a .b)) (place-in (a .reader) (now (a .array)) (not-false _ (c .before .before .before .before .if2 .left))))
+    (c .take-behind .ensures .0) (c .take-behind .ensures .1)
+
+pub take-byte-spec : {M : Type 1} → statement M
+take-byte-spec =
+    tie.close
+    (tie.spec
+    first-requires
+    started-requires
+    returns
+    fresh-requires
+    returns-2
+    take-len-requires
+    returns-3
+    data-count-requires
+    take-behind-requires
+    returns-4)

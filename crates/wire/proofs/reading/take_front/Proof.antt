@@ -1,0 +1,77 @@
+use mathlib.Core.Path.{_≡_, refl, sym, ap, _∙_}
+use native.Mathlib.Omega.{arith}
+use denote.Ref.{now}
+use Rattle.wire.proofs.Suits.{behind-small, length-front, ending-in}
+use Rattle.wire.specs.Reading.{inside}
+use mathlib.Core.List.{[], _∷_, _++_}
+use lib.ListN.{take, getD, length}
+use borrow.Author.Tests.{not-true, not-false}
+use Rattle.wire.proofs.Steps.{reads, front-broken, front-more, more}
+use borrow.Author.Needs.{needs}
+use Rattle.wire.proofs.reading.take_front.Statement.{statement}
+use Rattle.wire.proofs.reading.take_front.Tie as tie
+use Rattle.wire.proofs.reading.take_front.Reads as reads
+use Rattle.wire.proofs.reading.take_front.Lts as lts
+use Rattle.wire.proofs.reading.broken.Reads as broken-reads
+use Rattle.wire.proofs.suit.suits_front.Reads as suits-front-reads
+
+-- src/reading.rt:137:36
+sub-suits-front : tie.Need-sub-suits-front
+sub-suits-front c = search needs
+
+-- src/reading.rt:137:9
+suits-front-requires : tie.Need-suits-front-requires
+suits-front-requires c κs = search needs
+
+-- src/reading.rt:138:9
+broken-requires : tie.Need-broken-requires
+broken-requires c κs = search needs
+
+-- src/reading.rt:138:9
+returns : tie.Need-returns
+returns c =
+    let s = c .before .before .before in
+    let a = s .args in
+    reads (now (a .array)) _ _ _ _
+    (front-broken (a .kind) (a .n) (a .count) (now (a .array)) (s .pre .0) (s .fits .count .fits) (a .sum) (a .b) (s .pre .1)
+    (sym (c .before .before .suits-front .ensures) ∙ not-true _ (c .before .if1 .taken)))
+    (c .broken .ensures) refl
+
+-- src/reading.rt:140:5
+element-write-array : tie.Need-element-write-array
+element-write-array c = search needs
+
+-- src/reading.rt:144:20
+add-t13 : tie.Need-add-t13
+add-t13 c = omega (arith, c .before .before .pre .0 .small, length-front (c .before .before .args .kind) (c .before .before .args .n))
+
+-- src/reading.rt:145:20
+add-t16 : tie.Need-add-t16
+add-t16 c = search needs
+
+-- src/reading.rt:145:18
+cast-t18 : tie.Need-cast-t18
+cast-t18 c = search needs
+
+-- src/reading.rt:130:1
+returns-2 : tie.Need-returns-2
+returns-2 c =
+    let s = c .before .before in
+    let a = s .args in
+    more (a .kind) (a .n) (a .count) (now (a .array)) (s .pre .0) (s .fits .count .fits) (a .sum) (a .b) _ _
+    (front-more (a .kind) (a .n) (a .count) (now (a .array)) (s .pre .0) (s .fits .count .fits) (a .sum) (a .b) (s .pre .1)
+    (sym (c .before .suits-front .ensures) ∙ not-false _ (c .if1 .left)))
+
+pub take-front-spec : {M : Type 1} → statement M
+take-front-spec =
+    tie.close
+    (tie.spec
+    sub-suits-front
+    suits-front-requires
+    broken-requires
+    returns
+    element-write-array
+    add-t13
+    add-t16
+    cast-t18
+    returns-2)

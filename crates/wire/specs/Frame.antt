@@ -1,0 +1,61 @@
+-- Document 01, "Frames": a command and an answer as values, and the bytes of each.
+use Prim.Native.Nat.{ℕ, _+_, _/_, _%_}
+use mathlib.Core.Bool.{Bool, _&&_}
+use mathlib.Core.List.{List, [], _∷_, _++_}
+use lib.Dec.{leb, eqb}
+use lib.ListN.{length}
+use Rattle.wire.specs.Bytes.{mayStand, every}
+use Rattle.wire.specs.declared.Kind.{Kind}
+use Rattle.wire.specs.declared.Kind.the-variants.{Command, Answer}
+use Rattle.wire.specs.declared.Sort.the-variants.{Mark, Data, Status}
+
+-- SEQ, CMD and data. An answer has six status bytes besides, a command none.
+pub record Message : Type 0 where
+  pub seq : ℕ
+  pub code : ℕ
+  pub content : List ℕ
+  pub status : List ℕ
+
+-- "BCC is the sum of the bytes LEN to 05h"
+abbrev pub total : List ℕ → ℕ
+total [] = 0
+total (b ∷ bs) = b + total bs
+
+-- "as four bytes 30h + each hexadecimal digit, highest first: 12ABh is 31h 32h 3Ah 3Bh"
+abbrev pub hexadecimal : ℕ → ℕ
+hexadecimal n = 0x30 + n % 16
+
+abbrev pub bcc : ℕ → List ℕ
+bcc sum = hexadecimal (sum / 4096) ∷ hexadecimal (sum / 256) ∷ hexadecimal (sum / 16) ∷ hexadecimal sum ∷ []
+
+-- what stands between CMD and 05h: "data (0 to 200 bytes)", and in an answer "04h, STATUS (6 bytes ..)" behind it
+abbrev pub inner : Kind → Message → List ℕ
+inner Command m = m .content
+inner Answer m = m .content ++ 0x04 ∷ m .status
+
+-- "LEN is the number of bytes from LEN to 05h, both counted, plus 20h"
+abbrev pub counted : ℕ → ℕ → List ℕ → List ℕ
+counted seq code between = (length between + 4 + 0x20) ∷ seq ∷ code ∷ between ++ 0x05 ∷ []
+
+-- 01h, the bytes from LEN to 05h, their BCC, 03h
+abbrev pub enclosed : ℕ → ℕ → List ℕ → List ℕ
+enclosed seq code between = 0x01 ∷ counted seq code between ++ bcc (total (counted seq code between)) ++ 0x03 ∷ []
+
+-- "Command: 01h, LEN, SEQ, CMD, data, 05h, BCC, 03h. Answer: 01h, LEN, SEQ, CMD, data, 04h, STATUS, 05h, BCC, 03h."
+abbrev pub frame : Kind → Message → List ℕ
+frame k m = enclosed (m .seq) (m .code) (inner k m)
+
+-- how many status bytes a frame of each kind has
+abbrev pub statuses : Kind → ℕ
+statuses Command = 0
+statuses Answer = 6
+
+-- what can be sent: SEQ, CMD, data and status bytes that may stand there, and at most 200 data bytes
+unfoldable pub sendable : Kind → Message → Bool
+sendable k m =
+    mayStand Mark (m .seq)
+    && mayStand Mark (m .code)
+    && leb (length (m .content)) 200
+    && every (mayStand Data) (m .content)
+    && eqb (length (m .status)) (statuses k)
+    && every (mayStand Status) (m .status)

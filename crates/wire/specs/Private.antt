@@ -1,0 +1,14 @@
+-- What the private functions of reading ask of each other. No promise to a caller rests on it.
+use Prim.Native.Nat.{ℕ, _+_, _≤_, _<_}
+use mathlib.Core.Path.{_≡_}
+use mathlib.Core.List.{List}
+use lib.ListN.{length, getD}
+use Rattle.wire.specs.Reading.{dataCount, behindData}
+use Rattle.wire.specs.declared.Kind.{Kind}
+
+-- `count` bytes have come since 01h, LEN among them, which announces n data bytes
+pub record Behind (kind : Kind) (n count : ℕ) (array : List ℕ) : Type 0 where
+  pub some : 0 < count
+  pub announced : n ≡ dataCount kind (getD array 0 0)
+  pub small : n + length (behindData kind) ≤ 219
+  pub size : length array ≡ 256

@@ -1,0 +1,115 @@
+-- Document 01, "Frames", "Reading": one definition for commands (device) and answers (till end).
+use Prim.Native.Nat.{ℕ, _+_, _-_, _%_}
+use mathlib.Core.Bool.{Bool, true, false, cond}
+use mathlib.Core.List.{List, [], _∷_, _++_, map}
+use lib.Dec.{eqb, ltb}
+use lib.ListN.{length, getD, take, drop, replicate}
+use lib.Seq.{sets}
+use Rattle.wire.specs.Bytes.{within, mayStand}
+use Rattle.wire.specs.Frame.{Message, bcc, statuses}
+use Rattle.wire.specs.declared.Kind.{Kind}
+use Rattle.wire.specs.declared.Kind.the-variants.{Command, Answer}
+use Rattle.wire.specs.declared.Sort.the-variants.{Mark, Data, Status}
+
+abbrev pub is : ℕ → ℕ → Bool
+is wanted b = eqb b wanted
+
+-- behind the last byte of a frame nothing suits
+abbrev pub none : ℕ → Bool
+none b = false
+
+-- between the data and 05h: nothing in a command, 04h and six status bytes in an answer
+abbrev pub behindData : Kind → List (ℕ → Bool)
+behindData Command = []
+behindData Answer = is 0x04 ∷ replicate 6 (mayStand Status)
+
+-- "24h to ECh for commands, 2Bh to F3h for answers"
+abbrev pub shortest : Kind → ℕ
+shortest k = 0x24 + length (behindData k)
+
+abbrev pub longest : Kind → ℕ
+longest k = shortest k + 200
+
+-- the places from SEQ to 05h, a test to a place, where n data bytes stand: "05h stand where LEN says"
+abbrev pub front : Kind → ℕ → List (ℕ → Bool)
+front k n = mayStand Mark ∷ mayStand Mark ∷ replicate n (mayStand Data) ++ behindData k ++ is 0x05 ∷ []
+
+-- the places behind 05h: "each BCC byte be the one expected", then 03h
+abbrev pub ending : ℕ → List (ℕ → Bool)
+ending sum = map is (bcc sum) ++ is 0x03 ∷ []
+
+-- where reading stands: outside a frame, or inside one with the bytes since 01h; sum is that of those from LEN to 05h
+pub data Place : Type 0 where
+  outside : Place
+  inside : (sum : ℕ) (bytes : List ℕ) → Place
+
+-- how many data bytes LEN announces
+abbrev pub dataCount : Kind → ℕ → ℕ
+dataCount k len = len - shortest k
+
+-- "which does not suit its place": LEN in its range, then by the tests
+abbrev pub suits : Kind → ℕ → List ℕ → ℕ → Bool
+suits k sum [] b = within (shortest k) (longest k) b
+suits k sum (len ∷ bytes) b = getD (front k (dataCount k len) ++ ending sum) (length bytes) none b
+
+-- whether the next byte is the frame's last
+abbrev pub atLast : Kind → List ℕ → Bool
+atLast k [] = false
+atLast k (len ∷ bytes) = eqb (length bytes) (length (front k (dataCount k len)) + 4)
+
+-- the sum with one byte more: only LEN to 05h are added. Four hexadecimal digits hold it.
+abbrev pub grown : Kind → ℕ → List ℕ → ℕ → ℕ
+grown k sum [] b = b
+grown k sum (len ∷ bytes) b = cond (ltb (length bytes) (length (front k (dataCount k len)))) ((sum + b) % 65536) sum
+
+-- what the bytes since 01h are, once b has come behind them
+pub data Standing : Type 0 where
+  broken : Standing
+  beginning : Standing
+  whole : Standing
+
+abbrev pub standing : Kind → ℕ → List ℕ → ℕ → Standing
+standing k sum bytes b = cond (suits k sum bytes b) (cond (atLast k bytes) whole beginning) broken
+
+-- the command or answer that the bytes LEN to 05h say
+abbrev pub message : Kind → List ℕ → Message
+message k bytes =
+    let n = dataCount k (getD bytes 0 0) in
+    record {
+      seq = getD bytes 1 0;
+      code = getD bytes 2 0;
+      content = take n (drop 3 bytes);
+      status = take (statuses k) (drop (4 + n) bytes)
+    }
+
+-- what one byte brings: nothing; a broken frame, number 5 (the device gives NAK); or a whole frame
+pub data Event : Type 0 where
+  nothing : Event
+  brokenFrame : Event
+  heard : Message → Event
+
+pub record Read : Type 0 where
+  pub place : Place
+  pub event : Event
+
+-- "01h gives one too when at least one byte had followed the earlier 01h. 01h directly after 01h gives none."
+abbrev pub startsAnew : Place → Event
+startsAnew outside = nothing
+startsAnew (inside sum []) = nothing
+startsAnew (inside sum (b ∷ bytes)) = brokenFrame
+
+-- "A broken frame gives one NAK, at once", "and the device skips again"
+abbrev pub goesOn : Standing → Place → Message → Read
+goesOn broken next m = record { place = outside; event = brokenFrame }
+goesOn beginning next m = record { place = next; event = nothing }
+goesOn whole next m = record { place = outside; event = heard m }
+
+-- "outside a frame every byte but 01h is skipped silently"
+abbrev pub readOther : Kind → Place → ℕ → Read
+readOther k outside b = record { place = outside; event = nothing }
+readOther k (inside sum bytes) b =
+    goesOn (standing k sum bytes b) (inside (grown k sum bytes b) (bytes ++ b ∷ [])) (message k bytes)
+
+-- one step of reading: "Inside one, 01h always starts anew."
+abbrev pub read : Kind → Place → ℕ → Read
+read k p b = cond (eqb b 0x01) (record { place = inside 0 []; event = startsAnew p }) (readOther k p b)

@@ -1,0 +1,1 @@
+// Building frames into a lent buffer.

@@ -1,0 +1,188 @@
+// Reading, one byte at a time.
+use crate::Heard;
+use crate::Kind;
+use crate::Reader;
+use crate::Taken;
+use crate::suit;
+
+ghost use mathlib.Core.Path.{_≡_};
+ghost use mathlib.Core.Bool.{cond, _&&_};
+ghost use mathlib.Core.List.{[]};
+ghost use Prim.Native.Nat.{_<_, _≤_, _+_};
+ghost use lib.Dec.{ltb};
+ghost use lib.ListN.{length, getD, take};
+ghost use Rattle.wire.specs.Reading.{read, readOther, outside, inside, nothing, brokenFrame, front};
+ghost use Rattle.wire.specs.Private.{Behind};
+ghost use Rattle.wire.specs.Replies.{placeOf, readerOf, keptIn, takenOf};
+
+pub fn fresh() -> Reader
+    ensures { λ r. ⌜ r ≡ readerOf outside ⌝ }
+{
+    Reader {
+        inside: false,
+        count: 0,
+        sum: 0,
+    }
+}
+
+pub fn take_byte(kind: Kind, reader: Reader, array: &mut [u8; 256], b: u8) -> Taken
+    ensures { λ r. ⌜ r ≡ takenOf (read kind (placeOf reader (now (array .entry))) b) ⌝ }
+    ensures { λ r. ⌜ now (array .exit) ≡ keptIn (now (array .entry)) (read kind (placeOf reader (now (array .entry))) b .place) ⌝ }
+{
+    let len = first(&*array);
+    let within = reader.inside;
+    let count = reader.count;
+    if b == 0x01 {
+        return started(within, count);
+    }
+    if !within {
+        return Taken {
+            reader: fresh(),
+            heard: Heard::Nothing,
+        };
+    }
+    if count == 0 {
+        return take_len(kind, array, b);
+    }
+    take_behind(kind, suit::data_count(kind, len), count, reader.sum, array, b)
+}
+
+// The first byte, which is LEN inside a frame.
+fn first(bytes: &[u8]) -> u8
+    ensures { λ r. ⌜ r ≡ getD (now (bytes .entry)) 0 0 ⌝ }
+{
+    if bytes.len() == 0 {
+        return 0;
+    }
+    bytes[0]
+}
+
+// 01h: the place directly behind it, and a broken frame where bytes had followed an earlier one.
+fn started(within: bool, count: u8) -> Taken
+    ensures { λ r. ⌜ r ≡ takenOf (record { place = inside 0 []; event = cond (within && ltb 0 count) brokenFrame nothing }) ⌝ }
+{
+    let reader = Reader {
+        inside: true,
+        count: 0,
+        sum: 0,
+    };
+    if !within {
+        return Taken {
+            reader,
+            heard: Heard::Nothing,
+        };
+    }
+    if count == 0 {
+        return Taken {
+            reader,
+            heard: Heard::Nothing,
+        };
+    }
+    Taken {
+        reader,
+        heard: Heard::Broken,
+    }
+}
+
+fn broken() -> Taken
+    ensures { λ r. ⌜ r ≡ takenOf (record { place = outside; event = brokenFrame }) ⌝ }
+{
+    Taken {
+        reader: fresh(),
+        heard: Heard::Broken,
+    }
+}
+
+// The byte directly behind 01h.
+fn take_len(kind: Kind, array: &mut [u8; 256], b: u8) -> Taken
+    ensures { λ r. ⌜ r ≡ takenOf (readOther kind (inside 0 []) b) ⌝ }
+    ensures { λ r. ⌜ now (array .exit) ≡ keptIn (now (array .entry)) (readOther kind (inside 0 []) b .place) ⌝ }
+{
+    let least = 0x24 + suit::behind_data(kind);
+    let len = b as usize;
+    if len < least {
+        return broken();
+    }
+    if least + 200 < len {
+        return broken();
+    }
+    array[0] = b;
+    Taken {
+        reader: Reader {
+            inside: true,
+            count: 1,
+            sum: b as u16,
+        },
+        heard: Heard::Nothing,
+    }
+}
+
+// A byte behind LEN.
+fn take_behind(kind: Kind, n: usize, count: u8, sum: u16, array: &mut [u8; 256], b: u8) -> Taken
+    requires { ⌜ Behind kind n count (now array) ⌝ }
+    ensures { λ r. ⌜ r ≡ takenOf (readOther kind (inside sum (take count (now (array .entry)))) b) ⌝ }
+    ensures { λ r. ⌜ now (array .exit) ≡ keptIn (now (array .entry)) (readOther kind (inside sum (take count (now (array .entry)))) b .place) ⌝ }
+{
+    let edge = 3 + n + suit::behind_data(kind);
+    let at = count as usize - 1;
+    if at < edge {
+        return take_front(kind, n, count, sum, array, b);
+    }
+    take_ending(kind, n, edge, count, sum, array, b)
+}
+
+// A byte up to 05h: it is added.
+fn take_front(kind: Kind, n: usize, count: u8, sum: u16, array: &mut [u8; 256], b: u8) -> Taken
+    requires { ⌜ Behind kind n count (now array) ⌝ }
+    requires { ⌜ count ≤ length (front kind n) ⌝ }
+    ensures { λ r. ⌜ r ≡ takenOf (readOther kind (inside sum (take count (now (array .entry)))) b) ⌝ }
+    ensures { λ r. ⌜ now (array .exit) ≡ keptIn (now (array .entry)) (readOther kind (inside sum (take count (now (array .entry)))) b .place) ⌝ }
+{
+    let i = count as usize;
+    if !suit::suits_front(kind, n, i - 1, b) {
+        return broken();
+    }
+    array[i] = b;
+    Taken {
+        reader: Reader {
+            inside: true,
+            count: count + 1,
+            sum: ((sum as u32 + b as u32) % 65536) as u16,
+        },
+        heard: Heard::Nothing,
+    }
+}
+
+// A byte behind 05h; the fifth is the frame's last.
+fn take_ending(kind: Kind, n: usize, edge: usize, count: u8, sum: u16, array: &mut [u8; 256], b: u8) -> Taken
+    requires { ⌜ Behind kind n count (now array) ⌝ }
+    requires { ⌜ edge ≡ length (front kind n) ⌝ }
+    requires { ⌜ edge < count ⌝ }
+    ensures { λ r. ⌜ r ≡ takenOf (readOther kind (inside sum (take count (now (array .entry)))) b) ⌝ }
+    ensures { λ r. ⌜ now (array .exit) ≡ keptIn (now (array .entry)) (readOther kind (inside sum (take count (now (array .entry)))) b .place) ⌝ }
+{
+    let i = count as usize;
+    let at = i - 1 - edge;
+    if !suit::suits_ending(sum, at, b) {
+        return broken();
+    }
+    if at == 4 {
+        return Taken {
+            reader: fresh(),
+            heard: Heard::Whole {
+                seq: array[1],
+                code: array[2],
+                count: n,
+            },
+        };
+    }
+    array[i] = b;
+    Taken {
+        reader: Reader {
+            inside: true,
+            count: count + 1,
+            sum,
+        },
+        heard: Heard::Nothing,
+    }
+}

@@ -1,0 +1,124 @@
+// Which bytes suit which place, and the four bytes of a BCC.
+use crate::Kind;
+use crate::Sort;
+
+ghost use mathlib.Core.Path.{_≡_};
+ghost use Prim.Native.Nat.{_+_};
+ghost use mathlib.Core.List.{_++_, _∷_, []};
+ghost use lib.ListN.{length, getD};
+ghost use Rattle.wire.specs.Bytes.{mayStand, mayStandInData, every};
+ghost use Rattle.wire.specs.Frame.{bcc};
+ghost use Rattle.wire.specs.Reading.{front, ending, behindData, dataCount, is, none};
+
+fn may_stand_in_data(b: u8) -> bool
+    ensures { λ r. ⌜ r ≡ mayStandInData b ⌝ }
+{
+    if b == 0x09 {
+        return true;
+    }
+    if b == 0x0A {
+        return true;
+    }
+    0x20 <= b
+}
+
+pub fn may_stand(sort: Sort, b: u8) -> bool
+    ensures { λ r. ⌜ r ≡ mayStand sort b ⌝ }
+{
+    match sort {
+        Sort::Mark => 0x20 <= b,
+        Sort::Data => may_stand_in_data(b),
+        Sort::Status => 0x80 <= b,
+    }
+}
+
+pub fn all_may_stand(sort: Sort, part: &[u8]) -> bool
+    ensures { λ r. ⌜ r ≡ every (mayStand sort) (now (part .entry)) ⌝ }
+{
+    let mut i = 0;
+    while i < part.len() {
+        if !may_stand(sort, part[i]) {
+            return false;
+        }
+        i += 1;
+    }
+    true
+}
+
+// Highest digit first.
+pub fn bcc_bytes(sum: u16) -> [u8; 4]
+    ensures { λ r. ⌜ r ≡ bcc sum ⌝ }
+{
+    [
+        0x30 + (sum / 4096 % 16) as u8,
+        0x30 + (sum / 256 % 16) as u8,
+        0x30 + (sum / 16 % 16) as u8,
+        0x30 + (sum % 16) as u8,
+    ]
+}
+
+// How many places stand between the data and 05h.
+pub fn behind_data(kind: Kind) -> usize
+    ensures { λ r. ⌜ r ≡ length (behindData kind) ⌝ }
+{
+    match kind {
+        Kind::Command => 0,
+        Kind::Answer => 7,
+    }
+}
+
+pub fn data_count(kind: Kind, len: u8) -> usize
+    ensures { λ r. ⌜ r ≡ dataCount kind len ⌝ }
+{
+    let least = 0x24 + behind_data(kind);
+    let l = len as usize;
+    if l < least {
+        return 0;
+    }
+    l - least
+}
+
+// The places behind the data up to 05h, from 0.
+pub fn suits_behind(kind: Kind, at: usize, b: u8) -> bool
+    ensures { λ r. ⌜ r ≡ getD (behindData kind ++ is 0x05 ∷ []) at none b ⌝ }
+{
+    let n = behind_data(kind);
+    if n < at {
+        return false;
+    }
+    if at == n {
+        return b == 0x05;
+    }
+    if at == 0 {
+        return b == 0x04;
+    }
+    may_stand(Sort::Status, b)
+}
+
+// The places from SEQ to 05h, from 0, where n data bytes stand.
+pub fn suits_front(kind: Kind, n: usize, at: usize, b: u8) -> bool
+    ensures { λ r. ⌜ r ≡ getD (front kind n) at none b ⌝ }
+{
+    if at < 2 {
+        return may_stand(Sort::Mark, b);
+    }
+    let i = at - 2;
+    if i < n {
+        return may_stand(Sort::Data, b);
+    }
+    suits_behind(kind, i - n, b)
+}
+
+// The places behind 05h, from 0: BCC and 03h.
+pub fn suits_ending(sum: u16, at: usize, b: u8) -> bool
+    ensures { λ r. ⌜ r ≡ getD (ending sum) at none b ⌝ }
+{
+    let quad = bcc_bytes(sum);
+    if at < 4 {
+        return b == quad[at];
+    }
+    if at == 4 {
+        return b == 0x03;
+    }
+    false
+}
