@@ -7,7 +7,7 @@ use native.Mathlib.Numerals.{add-one}
 use native.Mathlib.Omega.{arith}
 use lib.ListN.{length, getD, take, drop, set, length-append, length-drop, drop-of-length-le, take-append-drop}
 use lib.Arith.{mod-mul}
-use lib.Seq.{sets, set-out, set-comm, take-all, drop-cons}
+use lib.Seq.{sets, set-out, set-comm, take-all, drop-cons, drop-set-lt, sets-eq, length-sets}
 use Rattle.text.specs.Digits.{digits, number}
 
 module _ {A : Type 0} where
@@ -47,6 +47,18 @@ module _ {A : Type 0} where
   part-back i l part vs e =
       let all : length (drop i l) ≤ length l - i = omega (arith, length-drop i l) in
       rw (e, take-all (length l - i) (drop i l) all, drop-of-length-le (drop i l) all, append-nil) (sets-part i l vs)
+
+  -- behind a run all stays
+  pub drop-sets : (n i : ℕ) (l vs : List A) → i + length vs ≤ n → drop n (sets l i vs) ≡ drop n l
+  drop-sets n i l [] h = refl
+  drop-sets n i l (v ∷ vs) h = drop-sets n (suc i) (set l i v) vs (omega arith) ∙ drop-set-lt n l i v (omega arith)
+
+  -- a run from the front on covers what was put within it
+  pub sets-over : (i : ℕ) (l vs ws : List A) → i + length vs ≤ length ws → length ws ≤ length l → sets (sets l i vs) 0 ws ≡ sets l 0 ws
+  sets-over i l vs ws h g =
+      sets-eq ws (sets l i vs) 0 (omega (arith, length-sets l i vs))
+      ∙ ap (λ d. ws ++ d) (drop-sets (0 + length ws) i l vs (omega arith))
+      ∙ sym (sets-eq ws l 0 (omega arith))
 
   -- a byte behind a run may be put first
   pub set-sets : (l : List A) (i j : ℕ) (vs : List A) (b : A) → i + length vs ≤ j → set (sets l i vs) j b ≡ sets (set l j b) i vs

@@ -1,2 +1,3 @@
 pub mod Suits
 pub mod Steps
+pub mod Building

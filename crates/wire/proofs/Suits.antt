@@ -17,9 +17,17 @@ use Rattle.wire.specs.declared.Kind.{Kind}
 use Rattle.wire.specs.declared.Kind.the-variants.{Command, Answer}
 use Rattle.wire.specs.declared.Sort.the-variants.{Mark, Data, Status}
 
-&&-true : (a : Bool) → a && true ≡ a
+pub &&-true : (a : Bool) → a && true ≡ a
 &&-true true = refl
 &&-true false = refl
+
+pub &&-false : (a : Bool) → a && false ≡ false
+&&-false true = refl
+&&-false false = refl
+
+pub both : (a b : Bool) → a && b ≡ true → (a ≡ true) × (b ≡ true)
+both true b e = (refl, e)
+both false b e = absurd (false≢true e)
 
 -- a byte is never above FFh, so the upper bound costs the code nothing
 pub within-byte : (lowest b : ℕ) → b < 256 → leb lowest b ≡ within lowest 0xFF b

@@ -16,6 +16,12 @@ pub record Message : Type 0 where
   pub content : List ℕ
   pub status : List ℕ
 
+abbrev pub commandOf : ℕ → ℕ → List ℕ → Message
+commandOf seq code content = record { seq = seq; code = code; content = content; status = [] }
+
+abbrev pub answerOf : ℕ → ℕ → List ℕ → List ℕ → Message
+answerOf seq code content status = record { seq = seq; code = code; content = content; status = status }
+
 -- "BCC is the sum of the bytes LEN to 05h"
 abbrev pub total : List ℕ → ℕ
 total [] = 0
@@ -50,12 +56,14 @@ abbrev pub statuses : Kind → ℕ
 statuses Command = 0
 statuses Answer = 6
 
--- what can be sent: SEQ, CMD, data and status bytes that may stand there, and at most 200 data bytes
-unfoldable pub sendable : Kind → Message → Bool
+-- SEQ, CMD and data that may stand in a frame; "can't be sent (.. CMD below 20h, data over 200, data byte not allowed)"
+abbrev pub carriable : ℕ → ℕ → List ℕ → Bool
+carriable seq code content =
+    mayStand Mark seq && mayStand Mark code && leb (length content) 200 && every (mayStand Data) content
+
+-- what can be sent: these, and as many status bytes as the kind has, each of which may stand there
+abbrev pub sendable : Kind → Message → Bool
 sendable k m =
-    mayStand Mark (m .seq)
-    && mayStand Mark (m .code)
-    && leb (length (m .content)) 200
-    && every (mayStand Data) (m .content)
+    carriable (m .seq) (m .code) (m .content)
     && eqb (length (m .status)) (statuses k)
     && every (mayStand Status) (m .status)

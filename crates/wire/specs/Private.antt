@@ -5,6 +5,8 @@ use mathlib.Core.List.{List}
 use lib.ListN.{length, getD}
 use Rattle.wire.specs.Reading.{dataCount, behindData}
 use Rattle.wire.specs.declared.Kind.{Kind}
+use Rattle.wire.specs.declared.Heard.{Heard}
+use Rattle.wire.specs.declared.Heard.the-variants.{Nothing, Broken, Whole}
 
 -- `count` bytes have come since 01h, LEN among them, which announces n data bytes
 pub record Behind (kind : Kind) (n count : ℕ) (array : List ℕ) : Type 0 where
@@ -12,3 +14,14 @@ pub record Behind (kind : Kind) (n count : ℕ) (array : List ℕ) : Type 0 wher
   pub announced : n ≡ dataCount kind (getD array 0 0)
   pub small : n + length (behindData kind) ≤ 219
   pub size : length array ≡ 256
+
+-- what one byte adds to the two counts of a run
+abbrev pub brokenOf : Heard → ℕ
+brokenOf Nothing = 0
+brokenOf Broken = 1
+brokenOf (Whole seq code n) = 0
+
+abbrev pub wholeOf : Heard → ℕ
+wholeOf Nothing = 0
+wholeOf Broken = 0
+wholeOf (Whole seq code n) = 1

@@ -113,3 +113,14 @@ readOther k (inside sum bytes) b =
 -- one step of reading: "Inside one, 01h always starts anew."
 abbrev pub read : Kind → Place → ℕ → Read
 read k p b = cond (eqb b 0x01) (record { place = inside 0 []; event = startsAnew p }) (readOther k p b)
+
+-- a whole run of bytes: where reading stands behind it, and what each byte brought
+pub record Run : Type 0 where
+  pub place : Place
+  pub events : List Event
+
+abbrev pub run : Kind → Place → List ℕ → Run
+run k p [] = record { place = p; events = [] }
+run k p (b ∷ bs) =
+    let rest = run k (read k p b .place) bs in
+    record { place = rest .place; events = read k p b .event ∷ rest .events }

@@ -6,7 +6,7 @@ use lib.Dec.{ltb}
 use lib.ListN.{length, take}
 use lib.Seq.{sets}
 use Rattle.wire.specs.Frame.{Message, frame, sendable}
-use Rattle.wire.specs.Reading.{Place, outside, inside, Event, nothing, brokenFrame, heard, Read, read}
+use Rattle.wire.specs.Reading.{Place, outside, inside, Event, nothing, brokenFrame, heard, Read, read, Run}
 use Rattle.wire.specs.declared.Kind.{Kind}
 use Rattle.wire.specs.declared.Kind.the-variants.{Command, Answer}
 use Rattle.wire.specs.declared.Built.{Built}
@@ -15,6 +15,7 @@ use Rattle.wire.specs.declared.Heard.{Heard}
 use Rattle.wire.specs.declared.Heard.the-variants.{Nothing, Broken, Whole}
 use Rattle.wire.specs.declared.Reader.{Reader}
 use Rattle.wire.specs.declared.Taken.{Taken}
+use Rattle.wire.specs.declared.Told.{Told}
 
 -- "7: lent buffer too short (device 217, till end 210)"
 abbrev pub room : Kind → ℕ
@@ -62,3 +63,22 @@ heardOf (heard m) = Whole (m .seq) (m .code) (length (m .content))
 
 abbrev pub takenOf : Read → Taken
 takenOf r = record { reader = readerOf (r .place); heard = heardOf (r .event) }
+
+-- how many broken frames, and how many whole ones, stand in a list of events
+abbrev pub brokenIn : Event → ℕ
+brokenIn nothing = 0
+brokenIn brokenFrame = 1
+brokenIn (heard m) = 0
+
+abbrev pub wholeIn : Event → ℕ
+wholeIn nothing = 0
+wholeIn brokenFrame = 0
+wholeIn (heard m) = 1
+
+abbrev pub count : (Event → ℕ) → List Event → ℕ
+count of [] = 0
+count of (e ∷ es) = of e + count of es
+
+-- a whole run, heard by a fresh reader
+abbrev pub toldOf : Run → Told
+toldOf r = record { reader = readerOf (r .place); broken = count brokenIn (r .events); whole = count wholeIn (r .events) }

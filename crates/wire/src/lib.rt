@@ -41,3 +41,10 @@ pub struct Taken {
     pub reader: Reader,
     pub heard: Heard,
 }
+
+// What a whole run of bytes brought: where reading stands behind it, the broken frames and the whole ones.
+pub struct Told {
+    pub reader: Reader,
+    pub broken: usize,
+    pub whole: usize,
+}

@@ -3,6 +3,7 @@ use crate::Heard;
 use crate::Kind;
 use crate::Reader;
 use crate::Taken;
+use crate::Told;
 use crate::suit;
 
 ghost use mathlib.Core.Path.{_≡_};
@@ -11,9 +12,9 @@ ghost use mathlib.Core.List.{[]};
 ghost use Prim.Native.Nat.{_<_, _≤_, _+_};
 ghost use lib.Dec.{ltb};
 ghost use lib.ListN.{length, getD, take};
-ghost use Rattle.wire.specs.Reading.{read, readOther, outside, inside, nothing, brokenFrame, front};
-ghost use Rattle.wire.specs.Private.{Behind};
-ghost use Rattle.wire.specs.Replies.{placeOf, readerOf, keptIn, takenOf};
+ghost use Rattle.wire.specs.Reading.{read, readOther, run, outside, inside, nothing, brokenFrame, front};
+ghost use Rattle.wire.specs.Private.{Behind, brokenOf, wholeOf};
+ghost use Rattle.wire.specs.Replies.{placeOf, readerOf, keptIn, takenOf, toldOf};
 
 pub fn fresh() -> Reader
     ensures { λ r. ⌜ r ≡ readerOf outside ⌝ }
@@ -55,6 +56,51 @@ fn first(bytes: &[u8]) -> u8
         return 0;
     }
     bytes[0]
+}
+
+// A whole run of bytes, heard by a fresh reader.
+pub fn listen(kind: Kind, bytes: &[u8]) -> Told
+    ensures { λ r. ⌜ r ≡ toldOf (run kind outside (now (bytes .entry))) ⌝ }
+{
+    let mut array = [0u8; 256];
+    let mut reader = fresh();
+    let mut broken: usize = 0;
+    let mut whole: usize = 0;
+    let mut i = 0;
+    while i < bytes.len() {
+        let taken = take_byte(kind, reader, &mut array, bytes[i]);
+        let next = taken.reader;
+        let heard = taken.heard;
+        reader = next;
+        broken += broken_in(heard);
+        whole += whole_in(heard);
+        i += 1;
+    }
+    Told {
+        reader,
+        broken,
+        whole,
+    }
+}
+
+fn broken_in(heard: Heard) -> usize
+    ensures { λ r. ⌜ r ≡ brokenOf heard ⌝ }
+{
+    match heard {
+        Heard::Nothing => 0,
+        Heard::Broken => 1,
+        Heard::Whole { seq: _, code: _, count: _ } => 0,
+    }
+}
+
+fn whole_in(heard: Heard) -> usize
+    ensures { λ r. ⌜ r ≡ wholeOf heard ⌝ }
+{
+    match heard {
+        Heard::Nothing => 0,
+        Heard::Broken => 0,
+        Heard::Whole { seq: _, code: _, count: _ } => 1,
+    }
 }
 
 // 01h: the place directly behind it, and a broken frame where bytes had followed an earlier one.
