@@ -73,10 +73,10 @@ module _ (l : List ℕ) (n seq code : ℕ) (room : n + 10 ≤ length l) where
   with-05 =
       let at : 4 + length between ≡ n + 4 = omega (arith, length-between) in
       sym (
-        ap (λ k. sets l 0 (0x01 ∷ (k + 4 + 0x20) ∷ seq ∷ code ∷ between ++ 0x05 ∷ [])) length-between
-        ∙ sets-append (sets l 0 head) 4 between (0x05 ∷ [])
-        ∙ ap (λ z. set z (4 + length between) 0x05) in-place
-        ∙ ap (λ k. set (sets l 0 head) k 0x05) at)
+      ap (λ k. sets l 0 (0x01 ∷ (k + 4 + 0x20) ∷ seq ∷ code ∷ between ++ 0x05 ∷ [])) length-between
+      ∙ sets-append (sets l 0 head) 4 between (0x05 ∷ [])
+      ∙ ap (λ z. set z (4 + length between) 0x05) in-place
+      ∙ ap (λ k. set (sets l 0 head) k 0x05) at)
 
   summed : take (n + 5 - 1) (drop 1 (sets l 0 front)) ≡ counted seq code between
   summed =
@@ -91,10 +91,10 @@ module _ (l : List ℕ) (n seq code : ℕ) (room : n + 10 ≤ length l) where
       let first : 0 + length front ≡ n + 5 = omega (arith, length-counted) in
       let second : 0 + length (front ++ quad) ≡ n + 9 = omega (arith, length-append front quad, length-counted) in
       sym (
-        sets-append l 0 (front ++ quad) (0x03 ∷ [])
-        ∙ ap (λ z. set z (0 + length (front ++ quad)) 0x03) (sets-append l 0 front quad)
-        ∙ ap (λ k. set (sets (sets l 0 front) (0 + length front) quad) k 0x03) second
-        ∙ ap (λ k. set (sets (sets l 0 front) k quad) (n + 9) 0x03) first)
+      sets-append l 0 (front ++ quad) (0x03 ∷ [])
+      ∙ ap (λ z. set z (0 + length (front ++ quad)) 0x03) (sets-append l 0 front quad)
+      ∙ ap (λ k. set (sets (sets l 0 front) (0 + length front) quad) k 0x03) second
+      ∙ ap (λ k. set (sets (sets l 0 front) k quad) (n + 9) 0x03) first)
 
   -- the buffer after each of the five things that the code puts
   pub enclosing : (b1 b2 b3 b4 four : List ℕ) (sum : ℕ) → b1 ≡ sets l 0 head → b2 ≡ set b1 (n + 4) 0x05
@@ -133,12 +133,12 @@ finishing l status n seq code room six b1 b2 e e1 e2 ee =
     let at : 4 + length (take n (drop 4 l)) ≡ n + 4 = omega arith in
     let next : suc (n + 4) ≡ n + 5 = omega arith in
     let put : b2 ≡ sets l 4 inner =
-      e2 ∙ ap (λ z. sets z (n + 5) status) e1
-      ∙ sym (
-        sets-append l 4 (take n (drop 4 l)) (0x04 ∷ status)
-        ∙ ap (λ z. sets z (4 + length (take n (drop 4 l))) (0x04 ∷ status)) (sets-same 4 n l)
-        ∙ ap (λ k. sets l k (0x04 ∷ status)) at
-        ∙ ap (λ k. sets (set l (n + 4) 0x04) k status) next) in
+    e2 ∙ ap (λ z. sets z (n + 5) status) e1
+    ∙ sym (
+    sets-append l 4 (take n (drop 4 l)) (0x04 ∷ status)
+    ∙ ap (λ z. sets z (4 + length (take n (drop 4 l))) (0x04 ∷ status)) (sets-same 4 n l)
+    ∙ ap (λ k. sets l k (0x04 ∷ status)) at
+    ∙ ap (λ k. sets (set l (n + 4) 0x04) k status) next) in
     around l inner seq code (λ z. z) (omega arith) (omega arith) b2 e put (ee ∙ ap (λ k. sets b2 0 (enclosed seq code (take k (drop 4 b2)))) (sym size))
 
 pub carriable-short : (seq code : ℕ) (content : List ℕ) → carriable seq code content ≡ true → length content ≤ 200

@@ -1,3 +1,4 @@
 pub mod Suits
 pub mod Steps
 pub mod Building
+pub mod Running

@@ -118,8 +118,8 @@ module _ (k : Kind) (n count : ℕ) (array : List ℕ) (in-frame : Behind k n co
     suits-ending =
         let at : length (front k n) + (count - 1 - length (front k n)) ≡ count - 1 = omega arith in
         suits-at ∙ ap (λ (t : ℕ → Bool). t b) (
-          ap (λ j. getD (front k n ++ ending sum) j none) (sym at)
-          ∙ getD-append-add (front k n) (ending sum) (count - 1 - length (front k n)) none)
+        ap (λ j. getD (front k n ++ ending sum) j none) (sym at)
+        ∙ getD-append-add (front k n) (ending sum) (count - 1 - length (front k n)) none)
 
     pub ending-broken : getD (ending sum) (count - 1 - length (front k n)) none b ≡ false
         → readOther k (inside sum bytes) b ≡ record { place = outside; event = brokenFrame }

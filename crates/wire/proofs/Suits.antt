@@ -77,7 +77,7 @@ behind-status Answer (suc at) b h e =
 pub length-front : (k : Kind) (n : ℕ) → length (front k n) ≡ 3 + n + length (behindData k)
 length-front k n =
     let a : length (replicate n (mayStand Data) ++ behindData k ++ is 0x05 ∷ []) ≡ n + length (behindData k) + 1 =
-      simp (length-append, length-replicate) in
+    simp (length-append, length-replicate) in
     omega arith
 
 pub front-mark : (k : Kind) (n at b : ℕ) → at < 2 → mayStand Mark b ≡ getD (front k n) at none b
@@ -92,8 +92,8 @@ front-data k n (suc (suc i)) b g h =
     let inData : i < n = omega arith in
     rw (append-assoc (replicate n (mayStand Data)))
     (sym (ap (λ (t : ℕ → Bool). t b) (
-      List·getD-append (replicate n (mayStand Data)) (behindData k ++ is 0x05 ∷ []) none i (omega (arith, length-replicate n (mayStand Data)))
-      ∙ getD-replicate n i (mayStand Data) none inData)))
+    List·getD-append (replicate n (mayStand Data)) (behindData k ++ is 0x05 ∷ []) none i (omega (arith, length-replicate n (mayStand Data)))
+    ∙ getD-replicate n i (mayStand Data) none inData)))
 
 pub front-behind : (k : Kind) (n at b : ℕ) → 2 ≤ at → n ≤ at - 2
     → getD (behindData k ++ is 0x05 ∷ []) (at - 2 - n) none b ≡ getD (front k n) at none b
@@ -103,8 +103,8 @@ front-behind k n (suc (suc i)) b g h =
     let past : length (replicate n (mayStand Data)) + (suc (suc i) - 2 - n) ≡ i = omega (arith, length-replicate n (mayStand Data)) in
     rw append-assoc
     (sym (ap (λ (t : ℕ → Bool). t b) (
-      ap (λ j. getD (replicate n (mayStand Data) ++ (behindData k ++ is 0x05 ∷ [])) j none) (sym past)
-      ∙ getD-append-add (replicate n (mayStand Data)) (behindData k ++ is 0x05 ∷ []) (suc (suc i) - 2 - n) none)))
+    ap (λ j. getD (replicate n (mayStand Data) ++ (behindData k ++ is 0x05 ∷ [])) j none) (sym past)
+    ∙ getD-append-add (replicate n (mayStand Data)) (behindData k ++ is 0x05 ∷ []) (suc (suc i) - 2 - n) none)))
 
 -- the places behind 05h
 pub ending-quad : (sum at b : ℕ) → at < 4 → eqb b (getD (bcc sum) at 0) ≡ getD (ending sum) at none b

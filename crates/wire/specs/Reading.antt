@@ -79,7 +79,7 @@ message k bytes =
       seq = getD bytes 1 0;
       code = getD bytes 2 0;
       content = take n (drop 3 bytes);
-      status = take (statuses k) (drop (4 + n) bytes)
+      status = take (statuses k) (drop (4 + n) bytes);
     }
 
 -- what one byte brings: nothing; a broken frame, number 5 (the device gives NAK); or a whole frame

@@ -2,7 +2,6 @@
 use crate::Built;
 use crate::Sort;
 use crate::suit;
-
 ghost use mathlib.Core.Path.{_≡_};
 ghost use mathlib.Core.List.{_∷_, _++_};
 ghost use Prim.Native.Nat.{_+_, _%_, _≤_};

@@ -5,7 +5,6 @@ use crate::Reader;
 use crate::Taken;
 use crate::Told;
 use crate::suit;
-
 ghost use mathlib.Core.Path.{_≡_};
 ghost use mathlib.Core.Bool.{cond, _&&_};
 ghost use mathlib.Core.List.{[]};
@@ -45,7 +44,14 @@ pub fn take_byte(kind: Kind, reader: Reader, array: &mut [u8; 256], b: u8) -> Ta
     if count == 0 {
         return take_len(kind, array, b);
     }
-    take_behind(kind, suit::data_count(kind, len), count, reader.sum, array, b)
+    take_behind(
+        kind,
+        suit::data_count(kind, len),
+        count,
+        reader.sum,
+        array,
+        b,
+    )
 }
 
 // The first byte, which is LEN inside a frame.
@@ -89,7 +95,11 @@ fn broken_in(heard: Heard) -> usize
     match heard {
         Heard::Nothing => 0,
         Heard::Broken => 1,
-        Heard::Whole { seq: _, code: _, count: _ } => 0,
+        Heard::Whole {
+            seq: _,
+            code: _,
+            count: _,
+        } => 0,
     }
 }
 
@@ -99,7 +109,11 @@ fn whole_in(heard: Heard) -> usize
     match heard {
         Heard::Nothing => 0,
         Heard::Broken => 0,
-        Heard::Whole { seq: _, code: _, count: _ } => 1,
+        Heard::Whole {
+            seq: _,
+            code: _,
+            count: _,
+        } => 1,
     }
 }
 
@@ -200,7 +214,15 @@ fn take_front(kind: Kind, n: usize, count: u8, sum: u16, array: &mut [u8; 256], 
 }
 
 // A byte behind 05h; the fifth is the frame's last.
-fn take_ending(kind: Kind, n: usize, edge: usize, count: u8, sum: u16, array: &mut [u8; 256], b: u8) -> Taken
+fn take_ending(
+    kind: Kind,
+    n: usize,
+    edge: usize,
+    count: u8,
+    sum: u16,
+    array: &mut [u8; 256],
+    b: u8,
+) -> Taken
     requires { ⌜ Behind kind n count (now array) ⌝ }
     requires { ⌜ edge ≡ length (front kind n) ⌝ }
     requires { ⌜ edge < count ⌝ }

@@ -1,7 +1,6 @@
 // Which bytes suit which place, and the four bytes of a BCC.
 use crate::Kind;
 use crate::Sort;
-
 ghost use mathlib.Core.Path.{_≡_};
 ghost use Prim.Native.Nat.{_+_};
 ghost use mathlib.Core.List.{_++_, _∷_, []};

@@ -83,7 +83,7 @@ returns-4 c =
     let sent = sendable-answer (a .seq) (a .code) (now (a .content)) (a .t5) six fits (sym (c .before .before .before .before .before .before .before .before .before .all-may-stand .ensures) ∙ not-false _ (c .before .before .before .before .before .before .before .before .if3 .left)) in
     let size : c .before .before .finish .result ≡ length (enclosed (a .seq) (a .code) inner) = c .before .before .finish .ensures .0 ∙ omega (arith, length-enclosed (a .seq) (a .code) inner) in
     let put : c .before .before .finish .last .0 ≡ sets (now (a .buf)) 0 (enclosed (a .seq) (a .code) inner) =
-      around (now (a .buf)) (now (a .content)) (a .seq) (a .code) (λ z. z ++ 0x04 ∷ a .t5) (omega arith) (omega (arith, c .before .before .before .before .before .before .before .before .before .before .before .before .before .if1 .left)) _ _ (c .before .before .before .before .before .before .put-bytes .ensures) (c .before .before .finish .ensures .1) in
+    around (now (a .buf)) (now (a .content)) (a .seq) (a .code) (λ z. z ++ 0x04 ∷ a .t5) (omega arith) (omega (arith, c .before .before .before .before .before .before .before .before .before .before .before .before .before .if1 .left)) _ _ (c .before .before .before .before .before .before .put-bytes .ensures) (c .before .before .finish .ensures .1) in
     rw (size, put) (sym (can Answer (now (a .buf)) m (c .before .before .before .before .before .before .before .before .before .before .before .before .before .if1 .left) sent))
 
 pub build-answer-spec : {M : Type 1} → statement M

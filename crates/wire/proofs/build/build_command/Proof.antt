@@ -58,9 +58,9 @@ returns-3 c =
     let fits = sym (c .before .before .before .before .before .before .before .before .before .can-carry .ensures) ∙ not-false _ (c .before .before .before .before .before .before .before .before .if2 .left) in
     let few = carriable-short (a .seq) (a .code) (now (a .content)) fits in
     let size : c .before .before .enclose .result ≡ length (enclosed (a .seq) (a .code) (now (a .content))) =
-      c .before .before .enclose .ensures .0 ∙ sym (length-enclosed (a .seq) (a .code) (now (a .content))) in
+    c .before .before .enclose .ensures .0 ∙ sym (length-enclosed (a .seq) (a .code) (now (a .content))) in
     let put : c .before .before .enclose .last .0 ≡ sets (now (a .buf)) 0 (enclosed (a .seq) (a .code) (now (a .content))) =
-      around (now (a .buf)) (now (a .content)) (a .seq) (a .code) (λ z. z) (omega arith) (omega (arith, c .before .before .before .before .before .before .before .before .before .before .if1 .left)) _ _ (c .before .before .before .before .before .before .put-bytes .ensures) (c .before .before .enclose .ensures .1) in
+    around (now (a .buf)) (now (a .content)) (a .seq) (a .code) (λ z. z) (omega arith) (omega (arith, c .before .before .before .before .before .before .before .before .before .before .if1 .left)) _ _ (c .before .before .before .before .before .before .put-bytes .ensures) (c .before .before .enclose .ensures .1) in
     rw (size, put) (sym (can Command (now (a .buf)) (commandOf (a .seq) (a .code) (now (a .content))) (c .before .before .before .before .before .before .before .before .before .before .if1 .left) (sendable-command (a .seq) (a .code) (now (a .content)) ∙ fits)))
 
 pub build-command-spec : {M : Type 1} → statement M

@@ -95,12 +95,12 @@ returns c =
     let a = s .args in (
       refl,
       enclosing (now (a .buf)) (a .n) (a .seq) (a .code) (s .pre .1) _ _ _ _ _ _
-      (c .before .before .before .before .before .before .before .before .before .before .before .before .before .before .before .before .before .before .before .put-bytes .ensures)
-      (c .before .before .before .before .before .before .before .before .before .before .before .before .before .before .before .put-byte .ensures)
-      (c .before .before .before .before .before .before .before .before .before .before .sum-of .ensures)
-      (c .before .before .before .before .before .before .before .before .before .bcc-bytes .ensures)
-      (c .before .before .before .before .before .before .put-bytes2 .ensures)
-      (c .before .before .put-byte2 .ensures),
+          (c .before .before .before .before .before .before .before .before .before .before .before .before .before .before .before .before .before .before .before .put-bytes .ensures)
+          (c .before .before .before .before .before .before .before .before .before .before .before .before .before .before .before .put-byte .ensures)
+          (c .before .before .before .before .before .before .before .before .before .before .sum-of .ensures)
+          (c .before .before .before .before .before .before .before .before .before .bcc-bytes .ensures)
+          (c .before .before .before .before .before .before .put-bytes2 .ensures)
+          (c .before .before .put-byte2 .ensures),
     )
 
 pub enclose-spec : {M : Type 1} → statement M

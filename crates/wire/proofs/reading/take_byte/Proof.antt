@@ -87,7 +87,7 @@ take-behind-requires c κs =
       some = omega arith;
       announced = d .ensures ∙ ap (dataCount (a .kind)) (c .before .before .before .before .before .first .ensures);
       small = omega (arith, behind-small (a .kind), d .ensures, c .before .before .before .before .before .first .ok);
-      size = size
+      size = size;
     }
 
 -- src/reading.rt:28:1
