@@ -1,4 +1,2 @@
 pub mod Suits
-pub mod Steps
 pub mod Building
-pub mod Running

@@ -12,7 +12,7 @@ use lib.Seq.{getD-append-add, getD-append-seam, drop-cons}
 use borrow.Author.Tests.{le-leb, ne-eqb}
 use Rattle.wire.specs.Bytes.{within, mayStand, mayStandInData, every}
 use Rattle.wire.specs.Frame.{bcc}
-use Rattle.wire.specs.Reading.{behindData, front, ending, is, none}
+use Rattle.wire.specs.Places.{behindData, front, ending, is, none}
 use Rattle.wire.specs.declared.Kind.{Kind}
 use Rattle.wire.specs.declared.Kind.the-variants.{Command, Answer}
 use Rattle.wire.specs.declared.Sort.the-variants.{Mark, Data, Status}

@@ -1,5 +1,4 @@
 pub mod Bytes
 pub mod Frame
-pub mod Reading
+pub mod Places
 pub mod Replies
-pub mod Private

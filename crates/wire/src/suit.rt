@@ -7,7 +7,7 @@ ghost use mathlib.Core.List.{_++_, _∷_, []};
 ghost use lib.ListN.{length, getD};
 ghost use Rattle.wire.specs.Bytes.{mayStand, mayStandInData, every};
 ghost use Rattle.wire.specs.Frame.{bcc};
-ghost use Rattle.wire.specs.Reading.{front, ending, behindData, dataCount, is, none};
+ghost use Rattle.wire.specs.Places.{front, ending, behindData, dataCount, is, none};
 
 fn may_stand_in_data(b: u8) -> bool
     ensures { λ r. ⌜ r ≡ mayStandInData b ⌝ }

@@ -1,6 +1,6 @@
 use mathlib.Core.Path.{_∙_}
 use native.Mathlib.Omega.{arith}
-use Rattle.wire.specs.Reading.{behindData}
+use Rattle.wire.specs.Places.{behindData}
 use lib.ListN.{length}
 use Prim.Native.Nat.{_<_}
 use Rattle.wire.proofs.Suits.{behind-out, behind-end, behind-first, behind-status}

@@ -3,10 +3,10 @@ use denote.Ref.{now}
 use native.Mathlib.Omega.{arith}
 use lib.ListN.{List·getD-eq-default}
 use borrow.Author.Needs.{needs}
-use Rattle.wire.proofs.reading.first.Statement.{statement}
-use Rattle.wire.proofs.reading.first.Tie as tie
-use Rattle.wire.proofs.reading.first.Reads as reads
-use Rattle.wire.proofs.reading.first.Lts as lts
+use Rattle.reader.proofs.first.Statement.{statement}
+use Rattle.reader.proofs.first.Tie as tie
+use Rattle.reader.proofs.first.Reads as reads
+use Rattle.reader.proofs.first.Lts as lts
 
 -- src/reading.rt:55:9
 returns : tie.Need-returns

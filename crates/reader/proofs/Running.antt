@@ -9,16 +9,16 @@ use native.Mathlib.Omega.{arith}
 use lib.Dec.{eqb}
 use lib.ListN.{length, getD, take, drop, replicate, length-append, length-replicate, length-take, drop-of-length-le}
 use lib.Seq.{sets, sets-eq, length-sets, take-at, drop-cons, length-take-le}
-use Rattle.wire.specs.Private.{brokenOf, wholeOf}
-use Rattle.wire.specs.Reading.{Place, outside, inside, Read, Event, nothing, brokenFrame, heard, Standing, broken, beginning, whole, standing, goesOn, grown, message, startsAnew, read, readOther, Run, run}
+use Rattle.reader.specs.Private.{brokenOf, wholeOf}
+use Rattle.reader.specs.Reading.{Place, outside, inside, Read, Event, nothing, brokenFrame, heard, Standing, broken, beginning, whole, standing, goesOn, grown, message, startsAnew, read, readOther, Run, run}
 use Rattle.wire.specs.Frame.{Message}
-use Rattle.wire.specs.Replies.{placeOf, readerOf, keptIn, heardOf, takenOf, toldOf, count, brokenIn, wholeIn}
+use Rattle.reader.specs.Fields.{placeOf, readerOf, keptIn, heardOf, takenOf, toldOf, count, brokenIn, wholeIn}
 use Rattle.wire.specs.declared.Kind.{Kind}
-use Rattle.wire.specs.declared.Heard.{Heard}
-use Rattle.wire.specs.declared.Heard.the-variants.{Nothing, Broken, Whole}
-use Rattle.wire.specs.declared.Reader.{Reader}
-use Rattle.wire.specs.declared.Taken.{Taken}
-use Rattle.wire.specs.declared.Told.{Told}
+use Rattle.reader.specs.declared.Heard.{Heard}
+use Rattle.reader.specs.declared.Heard.the-variants.{Nothing, Broken, Whole}
+use Rattle.reader.specs.declared.Reader.{Reader}
+use Rattle.reader.specs.declared.Taken.{Taken}
+use Rattle.reader.specs.declared.Told.{Told}
 
 -- the bytes since 01h
 abbrev pub bytesOf : Place → List ℕ

@@ -4,15 +4,15 @@ use native.Mathlib.Omega.{arith}
 use borrow.Author.Needs.{needs}
 use denote.Ref.{now}
 use lib.ListN.{length}
-use Rattle.wire.proofs.Running.{Head, head-start, head-turn, head-done, few-broken, few-whole}
-use Rattle.wire.proofs.reading.listen.Statement.{statement}
-use Rattle.wire.proofs.reading.listen.Tie as tie
-use Rattle.wire.proofs.reading.listen.Reads as reads
-use Rattle.wire.proofs.reading.listen.Lts as lts
-use Rattle.wire.proofs.reading.broken_in.Reads as broken-in-reads
-use Rattle.wire.proofs.reading.fresh.Reads as fresh-reads
-use Rattle.wire.proofs.reading.take_byte.Reads as take-byte-reads
-use Rattle.wire.proofs.reading.whole_in.Reads as whole-in-reads
+use Rattle.reader.proofs.Running.{Head, head-start, head-turn, head-done, few-broken, few-whole}
+use Rattle.reader.proofs.listen.Statement.{statement}
+use Rattle.reader.proofs.listen.Tie as tie
+use Rattle.reader.proofs.listen.Reads as reads
+use Rattle.reader.proofs.listen.Lts as lts
+use Rattle.reader.proofs.broken_in.Reads as broken-in-reads
+use Rattle.reader.proofs.fresh.Reads as fresh-reads
+use Rattle.reader.proofs.take_byte.Reads as take-byte-reads
+use Rattle.reader.proofs.whole_in.Reads as whole-in-reads
 
 abbrev Inv-loop : tie.InvT-loop
 Inv-loop kind bytes array₀ reader₀ broken₀ whole₀ i₀ array reader broken whole i = Head kind bytes array reader broken whole i

@@ -1,19 +1,19 @@
 use mathlib.Core.Path.{_≡_, refl, sym, ap, _∙_}
 use native.Mathlib.Omega.{arith}
 use denote.Ref.{now}
 use Rattle.wire.proofs.Suits.{behind-small, length-front, ending-in}
-use Rattle.wire.specs.Reading.{inside}
+use Rattle.reader.specs.Reading.{inside}
 use mathlib.Core.List.{[], _∷_, _++_}
 use lib.ListN.{take, getD, length}
 use borrow.Author.Tests.{not-true, not-false}
-use Rattle.wire.proofs.Steps.{reads, front-broken, front-more, more}
+use Rattle.reader.proofs.Steps.{reads, front-broken, front-more, more}
 use borrow.Author.Needs.{needs}
-use Rattle.wire.proofs.reading.take_front.Statement.{statement}
-use Rattle.wire.proofs.reading.take_front.Tie as tie
-use Rattle.wire.proofs.reading.take_front.Reads as reads
-use Rattle.wire.proofs.reading.take_front.Lts as lts
-use Rattle.wire.proofs.reading.broken.Reads as broken-reads
+use Rattle.reader.proofs.take_front.Statement.{statement}
+use Rattle.reader.proofs.take_front.Tie as tie
+use Rattle.reader.proofs.take_front.Reads as reads
+use Rattle.reader.proofs.take_front.Lts as lts
+use Rattle.reader.proofs.broken.Reads as broken-reads
 use Rattle.wire.proofs.suit.suits_front.Reads as suits-front-reads
 
 -- src/reading.rt:137:36
 sub-suits-front : tie.Need-sub-suits-front

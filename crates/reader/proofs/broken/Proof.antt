@@ -1,10 +1,10 @@
 use mathlib.Core.Path.{_≡_}
 use borrow.Author.Needs.{needs}
-use Rattle.wire.proofs.reading.broken.Statement.{statement}
-use Rattle.wire.proofs.reading.broken.Tie as tie
-use Rattle.wire.proofs.reading.broken.Reads as reads
-use Rattle.wire.proofs.reading.broken.Lts as lts
-use Rattle.wire.proofs.reading.fresh.Reads as fresh-reads
+use Rattle.reader.proofs.broken.Statement.{statement}
+use Rattle.reader.proofs.broken.Tie as tie
+use Rattle.reader.proofs.broken.Reads as reads
+use Rattle.reader.proofs.broken.Lts as lts
+use Rattle.reader.proofs.fresh.Reads as fresh-reads
 
 -- src/reading.rt:86:17
 fresh-requires : tie.Need-fresh-requires

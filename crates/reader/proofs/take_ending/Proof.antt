@@ -2,20 +2,21 @@ use mathlib.Core.Path.{_≡_, refl, sym, ap, _∙_}
 use native.Mathlib.Omega.{arith}
 use Prim.Native.Nat.{_-_, _<_}
 use denote.Ref.{now}
 use Rattle.wire.proofs.Suits.{behind-small, length-front, ending-in}
-use Rattle.wire.specs.Reading.{inside, front}
+use Rattle.wire.specs.Places.{front}
+use Rattle.reader.specs.Reading.{inside}
 use mathlib.Core.List.{[], _∷_, _++_}
 use lib.ListN.{take, getD, length}
 use borrow.Author.Tests.{not-true, not-false}
-use Rattle.wire.proofs.Steps.{reads, ending-broken, ending-more, ending-whole, heard-whole, more}
+use Rattle.reader.proofs.Steps.{reads, ending-broken, ending-more, ending-whole, heard-whole, more}
 use borrow.Author.Needs.{needs}
-use Rattle.wire.proofs.reading.take_ending.Statement.{statement}
-use Rattle.wire.proofs.reading.take_ending.Tie as tie
-use Rattle.wire.proofs.reading.take_ending.Reads as reads
-use Rattle.wire.proofs.reading.take_ending.Lts as lts
-use Rattle.wire.proofs.reading.broken.Reads as broken-reads
-use Rattle.wire.proofs.reading.fresh.Reads as fresh-reads
+use Rattle.reader.proofs.take_ending.Statement.{statement}
+use Rattle.reader.proofs.take_ending.Tie as tie
+use Rattle.reader.proofs.take_ending.Reads as reads
+use Rattle.reader.proofs.take_ending.Lts as lts
+use Rattle.reader.proofs.broken.Reads as broken-reads
+use Rattle.reader.proofs.fresh.Reads as fresh-reads
 use Rattle.wire.proofs.suit.suits_ending.Reads as suits-ending-reads
 
 -- src/reading.rt:160:14
 sub-at : tie.Need-sub-at

@@ -1,18 +1,18 @@
 use mathlib.Core.Path.{_≡_, refl, sym, ap, _∙_}
 use native.Mathlib.Omega.{arith}
 use denote.Ref.{now}
 use Rattle.wire.proofs.Suits.{behind-small, length-front, ending-in}
-use Rattle.wire.specs.Reading.{inside}
+use Rattle.reader.specs.Reading.{inside}
 use mathlib.Core.List.{[], _∷_, _++_}
 use lib.ListN.{take, getD, length}
-use Rattle.wire.proofs.Steps.{reads, len-low, len-high, len-more}
+use Rattle.reader.proofs.Steps.{reads, len-low, len-high, len-more}
 use borrow.Author.Needs.{needs}
-use Rattle.wire.proofs.reading.take_len.Statement.{statement}
-use Rattle.wire.proofs.reading.take_len.Tie as tie
-use Rattle.wire.proofs.reading.take_len.Reads as reads
-use Rattle.wire.proofs.reading.take_len.Lts as lts
-use Rattle.wire.proofs.reading.broken.Reads as broken-reads
+use Rattle.reader.proofs.take_len.Statement.{statement}
+use Rattle.reader.proofs.take_len.Tie as tie
+use Rattle.reader.proofs.take_len.Reads as reads
+use Rattle.reader.proofs.take_len.Lts as lts
+use Rattle.reader.proofs.broken.Reads as broken-reads
 use Rattle.wire.proofs.suit.behind_data.Reads as behind-data-reads
 
 -- src/reading.rt:96:24
 behind-data-requires : tie.Need-behind-data-requires

@@ -1,18 +1,18 @@
 use mathlib.Core.Path.{_≡_, refl, sym, ap, _∙_}
 use native.Mathlib.Omega.{arith}
 use denote.Ref.{now}
 use Rattle.wire.proofs.Suits.{behind-small, length-front, ending-in}
-use Rattle.wire.specs.Reading.{inside}
+use Rattle.reader.specs.Reading.{inside}
 use mathlib.Core.List.{[], _∷_, _++_}
 use lib.ListN.{take, getD, length}
 use borrow.Author.Needs.{needs}
-use Rattle.wire.proofs.reading.take_behind.Statement.{statement}
-use Rattle.wire.proofs.reading.take_behind.Tie as tie
-use Rattle.wire.proofs.reading.take_behind.Reads as reads
-use Rattle.wire.proofs.reading.take_behind.Lts as lts
-use Rattle.wire.proofs.reading.take_ending.Reads as take-ending-reads
-use Rattle.wire.proofs.reading.take_front.Reads as take-front-reads
+use Rattle.reader.proofs.take_behind.Statement.{statement}
+use Rattle.reader.proofs.take_behind.Tie as tie
+use Rattle.reader.proofs.take_behind.Reads as reads
+use Rattle.reader.proofs.take_behind.Lts as lts
+use Rattle.reader.proofs.take_ending.Reads as take-ending-reads
+use Rattle.reader.proofs.take_front.Reads as take-front-reads
 use Rattle.wire.proofs.suit.behind_data.Reads as behind-data-reads
 
 -- src/reading.rt:121:16
 add-edge : tie.Need-add-edge

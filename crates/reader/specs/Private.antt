@@ -3,10 +3,10 @@ use Prim.Native.Nat.{ℕ, _+_, _≤_, _<_}
 use mathlib.Core.Path.{_≡_}
 use mathlib.Core.List.{List}
 use lib.ListN.{length, getD}
-use Rattle.wire.specs.Reading.{dataCount, behindData}
+use Rattle.wire.specs.Places.{dataCount, behindData}
 use Rattle.wire.specs.declared.Kind.{Kind}
-use Rattle.wire.specs.declared.Heard.{Heard}
-use Rattle.wire.specs.declared.Heard.the-variants.{Nothing, Broken, Whole}
+use Rattle.reader.specs.declared.Heard.{Heard}
+use Rattle.reader.specs.declared.Heard.the-variants.{Nothing, Broken, Whole}
 
 -- `count` bytes have come since 01h, LEN among them, which announces n data bytes
 pub record Behind (kind : Kind) (n count : ℕ) (array : List ℕ) : Type 0 where

@@ -1,19 +1,42 @@
-// Reading, one byte at a time.
-use crate::Heard;
-use crate::Kind;
-use crate::Reader;
-use crate::Taken;
-use crate::Told;
-use crate::suit;
+// Reading a frame, one byte at a time (document 01, "Frames", "Reading").
+use wire::Kind;
+use wire::suit;
 ghost use mathlib.Core.Path.{_≡_};
 ghost use mathlib.Core.Bool.{cond, _&&_};
 ghost use mathlib.Core.List.{[]};
 ghost use Prim.Native.Nat.{_<_, _≤_, _+_};
 ghost use lib.Dec.{ltb};
 ghost use lib.ListN.{length, getD, take};
-ghost use Rattle.wire.specs.Reading.{read, readOther, run, outside, inside, nothing, brokenFrame, front};
-ghost use Rattle.wire.specs.Private.{Behind, brokenOf, wholeOf};
-ghost use Rattle.wire.specs.Replies.{placeOf, readerOf, keptIn, takenOf, toldOf};
+ghost use Rattle.wire.specs.Places.{front};
+ghost use Rattle.reader.specs.Reading.{read, readOther, run, outside, inside, nothing, brokenFrame};
+ghost use Rattle.reader.specs.Private.{Behind, brokenOf, wholeOf};
+ghost use Rattle.reader.specs.Fields.{placeOf, readerOf, keptIn, takenOf, toldOf};
+
+// Where reading stands. The bytes since 01h are the first `count` of a lent array, so that a byte moves three scalars only.
+pub struct Reader {
+    pub inside: bool,
+    pub count: u8,
+    pub sum: u16,
+}
+
+// What one byte brings. A whole frame's data stands in the lent array from its fourth byte on.
+pub enum Heard {
+    Nothing,
+    Broken,
+    Whole { seq: u8, code: u8, count: usize },
+}
+
+pub struct Taken {
+    pub reader: Reader,
+    pub heard: Heard,
+}
+
+// What a whole run of bytes brought: where reading stands behind it, the broken frames and the whole ones.
+pub struct Told {
+    pub reader: Reader,
+    pub broken: usize,
+    pub whole: usize,
+}
 
 pub fn fresh() -> Reader
     ensures { λ r. ⌜ r ≡ readerOf outside ⌝ }

@@ -2,10 +2,10 @@ use mathlib.Core.Path.{refl, sym, _∙_}
 use mathlib.Core.Bool.{true, false}
 use native.Mathlib.Omega.{arith}
 use borrow.Author.Tests.{not-true, not-false, lt-ltb}
-use Rattle.wire.proofs.reading.started.Statement.{statement}
-use Rattle.wire.proofs.reading.started.Tie as tie
-use Rattle.wire.proofs.reading.started.Reads as reads
-use Rattle.wire.proofs.reading.started.Lts as lts
+use Rattle.reader.proofs.started.Statement.{statement}
+use Rattle.reader.proofs.started.Tie as tie
+use Rattle.reader.proofs.started.Reads as reads
+use Rattle.reader.proofs.started.Lts as lts
 
 -- src/reading.rt:71:9
 returns : tie.Need-returns

@@ -10,15 +10,16 @@ use lib.ListN.{length, getD, take, drop, set, length-append, length-drop, List·
 use lib.Seq.{sets, getD-append-add, length-take-le, getD-take}
 use borrow.Author.Tests.{le-leb, lt-leb, lt-ltb, le-ltb, eq-eqb, ne-eqb}
 use Rattle.text.proofs.Laws.{sets-append, sets-same}
 use Rattle.wire.proofs.Suits.{length-front, behind-small}
 use Rattle.wire.specs.Bytes.{within, mayStand}
-use Rattle.wire.specs.Reading.{Place, outside, inside, Read, Event, nothing, brokenFrame, heard, front, ending, none, dataCount, shortest, longest, suits, atLast, grown, message, read, readOther, startsAnew, behindData}
-use Rattle.wire.specs.Replies.{readerOf, heardOf, keptIn, takenOf, placeOf}
-use Rattle.wire.specs.Private.{Behind}
+use Rattle.wire.specs.Places.{front, ending, none, dataCount, shortest, longest, behindData}
+use Rattle.reader.specs.Reading.{Place, outside, inside, Read, Event, nothing, brokenFrame, heard, suits, atLast, grown, message, read, readOther, startsAnew}
+use Rattle.reader.specs.Fields.{readerOf, heardOf, keptIn, takenOf, placeOf}
+use Rattle.reader.specs.Private.{Behind}
 use Rattle.wire.specs.declared.Kind.{Kind}
-use Rattle.wire.specs.declared.Reader.{Reader}
-use Rattle.wire.specs.declared.Taken.{Taken}
-use Rattle.wire.specs.declared.Heard.the-variants.{Nothing, Broken, Whole}
+use Rattle.reader.specs.declared.Reader.{Reader}
+use Rattle.reader.specs.declared.Taken.{Taken}
+use Rattle.reader.specs.declared.Heard.the-variants.{Nothing, Broken, Whole}
 
 -- what a place inside a frame becomes, by the three answers
 module _ (k : Kind) (sum : ℕ) (bytes : List ℕ) (b : ℕ) where

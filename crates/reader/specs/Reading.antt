@@ -1,51 +1,18 @@
 -- Document 01, "Frames", "Reading": one definition for commands (device) and answers (till end).
-use Prim.Native.Nat.{ℕ, _+_, _-_, _%_}
+use Prim.Native.Nat.{ℕ, _+_, _%_}
 use mathlib.Core.Bool.{Bool, true, false, cond}
-use mathlib.Core.List.{List, [], _∷_, _++_, map}
+use mathlib.Core.List.{List, [], _∷_, _++_}
 use lib.Dec.{eqb, ltb}
-use lib.ListN.{length, getD, take, drop, replicate}
-use lib.Seq.{sets}
-use Rattle.wire.specs.Bytes.{within, mayStand}
-use Rattle.wire.specs.Frame.{Message, bcc, statuses}
+use lib.ListN.{length, getD, take, drop}
+use Rattle.wire.specs.Bytes.{within}
+use Rattle.wire.specs.Frame.{Message, statuses}
+use Rattle.wire.specs.Places.{none, front, ending, dataCount, shortest, longest}
 use Rattle.wire.specs.declared.Kind.{Kind}
-use Rattle.wire.specs.declared.Kind.the-variants.{Command, Answer}
-use Rattle.wire.specs.declared.Sort.the-variants.{Mark, Data, Status}
-
-abbrev pub is : ℕ → ℕ → Bool
-is wanted b = eqb b wanted
-
--- behind the last byte of a frame nothing suits
-abbrev pub none : ℕ → Bool
-none b = false
-
--- between the data and 05h: nothing in a command, 04h and six status bytes in an answer
-abbrev pub behindData : Kind → List (ℕ → Bool)
-behindData Command = []
-behindData Answer = is 0x04 ∷ replicate 6 (mayStand Status)
-
--- "24h to ECh for commands, 2Bh to F3h for answers"
-abbrev pub shortest : Kind → ℕ
-shortest k = 0x24 + length (behindData k)
-
-abbrev pub longest : Kind → ℕ
-longest k = shortest k + 200
-
--- the places from SEQ to 05h, a test to a place, where n data bytes stand: "05h stand where LEN says"
-abbrev pub front : Kind → ℕ → List (ℕ → Bool)
-front k n = mayStand Mark ∷ mayStand Mark ∷ replicate n (mayStand Data) ++ behindData k ++ is 0x05 ∷ []
-
--- the places behind 05h: "each BCC byte be the one expected", then 03h
-abbrev pub ending : ℕ → List (ℕ → Bool)
-ending sum = map is (bcc sum) ++ is 0x03 ∷ []
 
 -- where reading stands: outside a frame, or inside one with the bytes since 01h; sum is that of those from LEN to 05h
 pub data Place : Type 0 where
   outside : Place
   inside : (sum : ℕ) (bytes : List ℕ) → Place
-
--- how many data bytes LEN announces
-abbrev pub dataCount : Kind → ℕ → ℕ
-dataCount k len = len - shortest k
 
 -- "which does not suit its place": LEN in its range, then by the tests
 abbrev pub suits : Kind → ℕ → List ℕ → ℕ → Bool

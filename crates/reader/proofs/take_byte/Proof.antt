@@ -3,26 +3,27 @@ use mathlib.Core.List.{[]}
 use Prim.Native.Nat.{_<_}
 use lib.ListN.{length, take}
 use borrow.Author.Tests.{not-true, not-false}
-use Rattle.wire.specs.Reading.{inside, dataCount, readOther}
-use Rattle.wire.specs.Replies.{takenOf}
+use Rattle.wire.specs.Places.{dataCount}
+use Rattle.reader.specs.Reading.{inside, readOther}
+use Rattle.reader.specs.Fields.{takenOf}
 use Rattle.wire.proofs.Suits.{behind-small}
-use Rattle.wire.proofs.Steps.{place-in, place-out}
+use Rattle.reader.proofs.Steps.{place-in, place-out}
 use mathlib.Core.Path.{_≡_, refl, sym, ap, _∙_}
 use native.Mathlib.Omega.{arith}
 use denote.Ref.{now}
-use Rattle.wire.specs.Replies.{placeOf}
-use Rattle.wire.proofs.Steps.{reads, read-start, read-other, starts}
+use Rattle.reader.specs.Fields.{placeOf}
+use Rattle.reader.proofs.Steps.{reads, read-start, read-other, starts}
 use borrow.Author.Needs.{needs}
-use Rattle.wire.proofs.reading.take_byte.Statement.{statement}
-use Rattle.wire.proofs.reading.take_byte.Tie as tie
-use Rattle.wire.proofs.reading.take_byte.Reads as reads
-use Rattle.wire.proofs.reading.take_byte.Lts as lts
-use Rattle.wire.proofs.reading.first.Reads as first-reads
-use Rattle.wire.proofs.reading.fresh.Reads as fresh-reads
-use Rattle.wire.proofs.reading.started.Reads as started-reads
-use Rattle.wire.proofs.reading.take_behind.Reads as take-behind-reads
-use Rattle.wire.proofs.reading.take_len.Reads as take-len-reads
+use Rattle.reader.proofs.take_byte.Statement.{statement}
+use Rattle.reader.proofs.take_byte.Tie as tie
+use Rattle.reader.proofs.take_byte.Reads as reads
+use Rattle.reader.proofs.take_byte.Lts as lts
+use Rattle.reader.proofs.first.Reads as first-reads
+use Rattle.reader.proofs.fresh.Reads as fresh-reads
+use Rattle.reader.proofs.started.Reads as started-reads
+use Rattle.reader.proofs.take_behind.Reads as take-behind-reads
+use Rattle.reader.proofs.take_len.Reads as take-len-reads
 use Rattle.wire.proofs.suit.data_count.Reads as data-count-reads
 
 -- src/reading.rt:32:9
 first-requires : tie.Need-first-requires
