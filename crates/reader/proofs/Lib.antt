@@ -1,2 +1,5 @@
 pub mod Steps
 pub mod Running
+pub mod Passing
+pub mod Walking
+pub mod RoundTrip
