@@ -3,3 +3,5 @@ pub mod Running
 pub mod Passing
 pub mod Walking
 pub mod RoundTrip
+pub mod BuiltOnly
+pub mod History

@@ -7,15 +7,16 @@ use native.Mathlib.Omega.{arith}
 use lib.Dec.{leb, eqb}
 use lib.ListN.{length, getD, take, drop, replicate, length-append, length-replicate, replicate-append-replicate}
 use lib.Seq.{getD-append-add, take-at, drop-at, drop-append-add}
-use borrow.Author.Tests.{ne-eqb, eq-eqb, eqb-true, leb-true}
+use borrow.Author.Tests.{ne-eqb, eq-eqb, eqb-true, leb-true, le-leb}
 use Rattle.wire.specs.Bytes.{mayStand, every}
 use Rattle.wire.specs.Frame.{Message, total, bcc, hexadecimal, inner, counted, enclosed, frame, statuses, carriable, sendable}
 use Rattle.wire.specs.Places.{is, none, behindData, shortest, longest, front, ending, dataCount}
+use Rattle.wire.specs.Replies.{room}
 use Rattle.wire.specs.declared.Kind.{Kind}
 use Rattle.wire.specs.declared.Kind.the-variants.{Command, Answer}
 use Rattle.wire.specs.declared.Sort.the-variants.{Mark, Data, Status}
 use Rattle.wire.proofs.Suits.{both, length-front, behind-small}
-use Rattle.wire.proofs.Building.{bcc-mod}
+use Rattle.wire.proofs.Building.{bcc-mod, length-enclosed}
 use Rattle.reader.specs.Reading.{Place, outside, inside, Event, nothing, heard, Read, read, startsAnew, message, Run, run}
 use Rattle.reader.proofs.Steps.{read-start, read-other, reads-whole, len-more}
 use Rattle.reader.proofs.Passing.{Pass, done, more, pass-join, pass-every, pass-short}
@@ -45,6 +46,10 @@ parts k m e =
       size = eqb-true (length (m .status)) (statuses k) (state .1);
       status = whole .1
     }
+
+pub sendable-parts : (k : Kind) (m : Message) → Parts k m → sendable k m ≡ true
+sendable-parts k m h =
+    rw (h .seq, h .code, le-leb (length (m .content)) 200 (h .few), h .content, eq-eqb (length (m .status)) (statuses k) (h .size), h .status)
 
 no-more : (xs : List ℕ) → length xs ≡ 0 → [] ≡ xs
 no-more [] e = refl
@@ -95,35 +100,35 @@ pass-quad : (s : ℕ) → Pass (ending s) (bcc s)
 pass-quad s = more (same (hexadecimal (s / 4096))) (more (same (hexadecimal (s / 256))) (more (same (hexadecimal (s / 16))) (more (same (hexadecimal s)) done)))
 
 module _ (k : Kind) (m : Message) (h : Parts k m) where
-  abbrev len : ℕ
+  abbrev pub len : ℕ
   len = length (inner k m) + 4 + 0x20
 
-  abbrev body : List ℕ
+  abbrev pub body : List ℕ
   body = m .seq ∷ m .code ∷ inner k m ++ 0x05 ∷ []
 
-  abbrev quad : List ℕ
+  abbrev pub quad : List ℕ
   quad = bcc (total (counted (m .seq) (m .code) (inner k m)))
 
   announced : dataCount k len ≡ length (m .content)
   announced = omega (arith, length-inner k m h)
 
-  message-back : message k (len ∷ (body ++ quad)) ≡ m
-  message-back =
-      let bytes : List ℕ = len ∷ (body ++ quad) in
+  pub message-back : (rest : List ℕ) → message k (len ∷ (body ++ rest)) ≡ m
+  message-back rest =
+      let bytes : List ℕ = len ∷ (body ++ rest) in
       let behind : 4 + dataCount k len ≡ suc (suc (suc (1 + length (m .content)))) = omega (arith, announced) in
-      let content : take (dataCount k len) ((inner k m ++ 0x05 ∷ []) ++ quad) ≡ m .content =
-        ap (λ n. take n ((inner k m ++ 0x05 ∷ []) ++ quad)) announced ∙ content-back k m quad in
+      let content : take (dataCount k len) ((inner k m ++ 0x05 ∷ []) ++ rest) ≡ m .content =
+        ap (λ n. take n ((inner k m ++ 0x05 ∷ []) ++ rest)) announced ∙ content-back k m rest in
       let status : take (statuses k) (drop (4 + dataCount k len) bytes) ≡ m .status =
-        ap (λ n. take (statuses k) (drop n bytes)) behind ∙ status-back k m quad h in
+        ap (λ n. take (statuses k) (drop n bytes)) behind ∙ status-back k m rest h in
       λ i. record { seq = m .seq; code = m .code; content = content i; status = status i }
 
-  abbrev sum : ℕ
+  abbrev pub sum : ℕ
   sum = sumOn len body
 
   sum-is : sum ≡ total (counted (m .seq) (m .code) (inner k m)) % 65536
   sum-is = sum-total len body (omega (arith, length-inner k m h, h .few, behind-small k))
 
-  quad-is : bcc sum ≡ quad
+  pub quad-is : bcc sum ≡ quad
   quad-is = ap bcc sum-is ∙ bcc-mod (total (counted (m .seq) (m .code) (inner k m)))
 
   tests-are : front k (dataCount k len) ≡ front k (length (m .content))
@@ -151,7 +156,7 @@ module _ (k : Kind) (m : Message) (h : Parts k m) where
         ap (λ n. getD (tests ++ ending sum) n none 0x03) at ∙ ap (λ (t : ℕ → Bool). t 0x03) (getD-append-add tests (ending sum) 4 none) in
       read-other k (inside sum (len ∷ (body ++ quad))) 0x03 (λ e. omega arith)
       ∙ reads-whole k sum (len ∷ (body ++ quad)) 0x03 suit (eq-eqb (length (body ++ quad)) (length tests + 4) at)
-      ∙ ap (λ z. record { place = outside; event = heard z }) message-back
+      ∙ ap (λ z. record { place = outside; event = heard z }) (message-back quad)
 
   -- LEN
   read-len : read k (inside 0 []) len ≡ record { place = inside len (len ∷ []); event = nothing }
@@ -178,3 +183,23 @@ pub read-what-was-built : (k : Kind) (m : Message) → sendable k m ≡ true →
 read-what-was-built k m e p =
     run-first k p 0x01 (counted (m .seq) (m .code) (inner k m) ++ bcc (total (counted (m .seq) (m .code) (inner k m))) ++ 0x03 ∷ []) _ (read-start k p 0x01 refl)
     ∙ ap (λ (r : Run). record { place = r .place; events = startsAnew p ∷ r .events }) (heard-behind k m (parts k m e))
+
+-- "24h to ECh for commands, 2Bh to F3h for answers"
+pub len-sizes : (shortest Command ≡ 0x24) × (longest Command ≡ 0xEC) × (shortest Answer ≡ 0x2B) × (longest Answer ≡ 0xF3)
+len-sizes = (refl, refl, refl, refl)
+
+pub len-range : (k : Kind) (m : Message) → sendable k m ≡ true → (shortest k ≤ getD (frame k m) 1 0) × (getD (frame k m) 1 0 ≤ longest k)
+len-range k m e =
+    let h = parts k m e in
+    (omega (arith, length-inner k m h), omega (arith, length-inner k m h, h .few))
+
+behind-room : (k : Kind) → 210 + length (behindData k) ≡ room k
+behind-room Command = refl
+behind-room Answer = refl
+
+-- a frame has at least 10 bytes, and at most 210 in a command and 217 in an answer
+pub frame-size : (k : Kind) (m : Message) → sendable k m ≡ true → (10 ≤ length (frame k m)) × (length (frame k m) ≤ room k)
+frame-size k m e =
+    let h = parts k m e in
+    let size = length-enclosed (m .seq) (m .code) (inner k m) in
+    (omega arith, omega (arith, length-inner k m h, h .few, behind-room k))
