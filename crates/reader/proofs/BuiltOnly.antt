@@ -42,7 +42,7 @@ split (t ∷ ts) us (x ∷ xs) (more h p) l =
       is = ap (λ z. x ∷ z) (rest .is);
       size = ap suc (rest .size);
       first = more h (rest .first);
-      second = rest .second
+      second = rest .second;
     }
 
 -- tests for given bytes pass these bytes alone
@@ -78,9 +78,9 @@ between Command x y n r hx hy s l =
         few = omega (arith, s .size, length-replicate n (mayStand Data));
         content = pass-run n (mayStand Data) (s .left) (s .first);
         size = refl;
-        status = refl
+        status = refl;
       };
-      is = ap (λ z. x ∷ y ∷ z ++ 0x05 ∷ []) (s .is ∙ ap (λ z. s .left ++ z) none-left ∙ append-nil (s .left))
+      is = ap (λ z. x ∷ y ∷ z ++ 0x05 ∷ []) (s .is ∙ ap (λ z. s .left ++ z) none-left ∙ append-nil (s .left));
     }
   where
     empty : (xs : List ℕ) → length xs ≡ 0 → xs ≡ []
@@ -101,9 +101,9 @@ between Answer x y n r hx hy s l = go (s .right) (s .second) refl (omega (arith,
             few = omega (arith, s .size, length-replicate n (mayStand Data));
             content = pass-run n (mayStand Data) (s .left) (s .first);
             size = omega arith;
-            status = pass-run 6 (mayStand Status) qs p
+            status = pass-run 6 (mayStand Status) qs p;
           };
-          is = ap (λ w. x ∷ y ∷ w ++ 0x05 ∷ []) (s .is ∙ ap (λ w. s .left ++ w) (e ∙ ap (λ w. w ∷ qs) four))
+          is = ap (λ w. x ∷ y ∷ w ++ 0x05 ∷ []) (s .is ∙ ap (λ w. s .left ++ w) (e ∙ ap (λ w. w ∷ qs) four));
         }
 
 -- SEQ to 05h
@@ -118,10 +118,10 @@ said k n (x ∷ y ∷ r) (more hx (more hy p)) l = said-rest k x y n r hx hy p (
     said-rest k x y n r hx hy p l =
         let tests : List (ℕ → Bool) = replicate n (mayStand Data) ++ behindData k in
         let size : length tests ≡ n + length (behindData k) =
-          length-append (replicate n (mayStand Data)) (behindData k) ∙ ap (λ z. z + length (behindData k)) (length-replicate n (mayStand Data)) in
+        length-append (replicate n (mayStand Data)) (behindData k) ∙ ap (λ z. z + length (behindData k)) (length-replicate n (mayStand Data)) in
         let outer = split tests (is 0x05 ∷ []) r p l in
         let one : length (outer .right) ≡ 1 =
-          omega (arith, l, length-append tests (is 0x05 ∷ []), ap length (outer .is), length-append (outer .left) (outer .right), outer .size) in
+        omega (arith, l, length-append tests (is 0x05 ∷ []), ap length (outer .is), length-append (outer .left) (outer .right), outer .size) in
         let five : outer .right ≡ 0x05 ∷ [] = pass-is (0x05 ∷ []) (outer .right) (outer .second) one in
         let within = split (replicate n (mayStand Data)) (behindData k) (outer .left) (outer .first) (outer .size) in
         subst (λ z. Said k n (x ∷ y ∷ z)) (sym (outer .is ∙ ap (λ z. outer .left ++ z) five)) (between k x y n (outer .left) hx hy within (outer .size ∙ size))
@@ -155,7 +155,7 @@ module _ (k : Kind) (sum size : ℕ) (a : List ℕ) (range : within (shortest k)
         front-pass = pass-snoc pa b (sym (ap (λ (t : ℕ → Bool). t b) (List·getD-append tests (ending sum) none (length a) early)) ∙ e);
         ending-pass = done;
         summed = ap (λ s. (s + b) % 65536) es ∙ sym (sum-snoc size a b);
-        in-order = λ h. refl
+        in-order = λ h. refl;
       })
 
   grow-ending : (q : List ℕ) (b : ℕ) → Pass (ending sum) q → length a ≡ length tests → suits k sum (size ∷ (a ++ q)) b ≡ true
@@ -172,7 +172,7 @@ module _ (k : Kind) (sum size : ℕ) (a : List ℕ) (range : within (shortest k)
         front-pass = pa;
         ending-pass = pass-snoc pq b (sym (ap (λ n. getD (tests ++ ending sum) n none b) at ∙ ap (λ (t : ℕ → Bool). t b) (getD-append-add tests (ending sum) (length q) none)) ∙ e);
         summed = es;
-        in-order = λ h. absurd (omega arith)
+        in-order = λ h. absurd (omega arith);
       })
 
 -- bytes up to 05h alone, or all of them and some behind
@@ -191,9 +191,9 @@ pub grow : (k : Kind) (sum : ℕ) (bytes : List ℕ) (b : ℕ) → Grown k sum b
 grow k sum bytes b g e =
     ⊎-elim
     (λ c. subst (λ z. suits k sum z b ≡ true → Grown k (grown k sum z b) (z ++ b ∷ [])) (sym (c .0))
-      (grow-front k sum (g .size) (g .front-bytes) (g .range) (g .front-pass) (g .summed) b (c .1)) e)
+    (grow-front k sum (g .size) (g .front-bytes) (g .range) (g .front-pass) (g .summed) b (c .1)) e)
     (λ full. subst (λ z. suits k sum z b ≡ true → Grown k (grown k sum z b) (z ++ b ∷ [])) (sym (g .is))
-      (grow-ending k sum (g .size) (g .front-bytes) (g .range) (g .front-pass) (g .summed) (g .ending-bytes) b (g .ending-pass) full) e)
+    (grow-ending k sum (g .size) (g .front-bytes) (g .range) (g .front-pass) (g .summed) (g .ending-bytes) b (g .ending-pass) full) e)
     (cases k sum bytes g)
 
 -- a whole one
@@ -208,7 +208,7 @@ module _ (k : Kind) (sum size : ℕ) (a q : List ℕ) (b : ℕ) (range : within 
   closing =
       let at : length (a ++ q) ≡ length (front k (dataCount k size)) + length q = length-append a q ∙ ap (λ n. n + length q) full in
       let suit : getD (ending sum) (length q) none b ≡ true =
-        sym (ap (λ n. getD (front k (dataCount k size) ++ ending sum) n none b) at ∙ ap (λ (t : ℕ → Bool). t b) (getD-append-add (front k (dataCount k size)) (ending sum) (length q) none)) ∙ e in
+      sym (ap (λ n. getD (front k (dataCount k size) ++ ending sum) n none b) at ∙ ap (λ (t : ℕ → Bool). t b) (getD-append-add (front k (dataCount k size)) (ending sum) (length q) none)) ∙ e in
       pass-is (bcc sum ++ 0x03 ∷ []) (q ++ b ∷ []) (pass-snoc pq b suit) (omega (arith, length-append q (b ∷ []), four))
 
   s : Said k (dataCount k size) a

@@ -26,7 +26,7 @@ begins : (k : Kind) (sum : ℕ) (bytes : List ℕ) (b : ℕ) → (bytes ≡ []) 
 begins k sum bytes b g e =
     ⊎-elim
     (λ none. subst (λ z. suits k sum z b ≡ true → Grown k (grown k sum z b) (z ++ b ∷ [])) (sym none)
-      (λ fits. record { size = b; front-bytes = []; ending-bytes = []; is = refl; range = fits; front-pass = done; ending-pass = done; summed = refl; in-order = λ h. refl }) e)
+    (λ fits. record { size = b; front-bytes = []; ending-bytes = []; is = refl; range = fits; front-pass = done; ending-pass = done; summed = refl; in-order = λ h. refl }) e)
     (λ some. grow k sum bytes b some e)
     g
 
@@ -71,9 +71,9 @@ whole-grown : (k : Kind) (sum : ℕ) (bytes : List ℕ) (b : ℕ) → Grown k su
 whole-grown k sum bytes b g =
     ⊎-elim
     (λ c. subst (Whole k sum b) (sym (c .0))
-      (λ es el. absurd (omega (arith, c .1, eqb-true (length (g .front-bytes)) (length (front k (dataCount k (g .size))) + 4) el))))
+    (λ es el. absurd (omega (arith, c .1, eqb-true (length (g .front-bytes)) (length (front k (dataCount k (g .size))) + 4) el))))
     (λ full. subst (Whole k sum b) (sym (g .is))
-      (whole-ending k sum (g .size) (g .front-bytes) (g .ending-bytes) b (g .range) (g .front-pass) full (g .ending-pass) (g .summed)))
+    (whole-ending k sum (g .size) (g .front-bytes) (g .ending-bytes) b (g .range) (g .front-pass) full (g .ending-pass) (g .summed)))
     (cases k sum bytes g)
 
 whole-known : (k : Kind) (hist : List ℕ) (sum : ℕ) (bytes : List ℕ) (b : ℕ) → Known k hist (inside sum bytes)

@@ -44,7 +44,7 @@ parts k m e =
       few = leb-true (length (m .content)) 200 (count .1);
       content = bytes .1;
       size = eqb-true (length (m .status)) (statuses k) (state .1);
-      status = whole .1
+      status = whole .1;
     }
 
 pub sendable-parts : (k : Kind) (m : Message) → Parts k m → sendable k m ≡ true
@@ -69,7 +69,7 @@ length-inner Answer m h = omega (arith, length-append (m .content) (0x04 ∷ m .
 pass-front : (k : Kind) (m : Message) → Parts k m → Pass (front k (length (m .content))) (m .seq ∷ m .code ∷ inner k m ++ 0x05 ∷ [])
 pass-front k m h =
     let size : length (inner k m) ≡ length (replicate (length (m .content)) (mayStand Data) ++ behindData k) =
-      length-inner k m h ∙ sym (length-append (replicate (length (m .content)) (mayStand Data)) (behindData k) ∙ ap (λ n. n + length (behindData k)) (length-replicate (length (m .content)) (mayStand Data))) in
+    length-inner k m h ∙ sym (length-append (replicate (length (m .content)) (mayStand Data)) (behindData k) ∙ ap (λ n. n + length (behindData k)) (length-replicate (length (m .content)) (mayStand Data))) in
     more (h .seq) (more (h .code) (pass-join (pass-behind k m h) size (more {t = is 0x05} refl done)))
 
 -- the bytes from LEN on say the message that they were made of, whatever stands behind them
@@ -117,9 +117,9 @@ module _ (k : Kind) (m : Message) (h : Parts k m) where
       let bytes : List ℕ = len ∷ (body ++ rest) in
       let behind : 4 + dataCount k len ≡ suc (suc (suc (1 + length (m .content)))) = omega (arith, announced) in
       let content : take (dataCount k len) ((inner k m ++ 0x05 ∷ []) ++ rest) ≡ m .content =
-        ap (λ n. take n ((inner k m ++ 0x05 ∷ []) ++ rest)) announced ∙ content-back k m rest in
+      ap (λ n. take n ((inner k m ++ 0x05 ∷ []) ++ rest)) announced ∙ content-back k m rest in
       let status : take (statuses k) (drop (4 + dataCount k len) bytes) ≡ m .status =
-        ap (λ n. take (statuses k) (drop n bytes)) behind ∙ status-back k m rest h in
+      ap (λ n. take (statuses k) (drop n bytes)) behind ∙ status-back k m rest h in
       λ i. record { seq = m .seq; code = m .code; content = content i; status = status i }
 
   abbrev pub sum : ℕ
@@ -153,7 +153,7 @@ module _ (k : Kind) (m : Message) (h : Parts k m) where
       let tests : List (ℕ → Bool) = front k (dataCount k len) in
       let at : length (body ++ quad) ≡ length tests + 4 = length-append body quad ∙ ap (λ n. n + 4) length-body in
       let suit : getD (tests ++ ending sum) (length (body ++ quad)) none 0x03 ≡ true =
-        ap (λ n. getD (tests ++ ending sum) n none 0x03) at ∙ ap (λ (t : ℕ → Bool). t 0x03) (getD-append-add tests (ending sum) 4 none) in
+      ap (λ n. getD (tests ++ ending sum) n none 0x03) at ∙ ap (λ (t : ℕ → Bool). t 0x03) (getD-append-add tests (ending sum) 4 none) in
       read-other k (inside sum (len ∷ (body ++ quad))) 0x03 (λ e. omega arith)
       ∙ reads-whole k sum (len ∷ (body ++ quad)) 0x03 suit (eq-eqb (length (body ++ quad)) (length tests + 4) at)
       ∙ ap (λ z. record { place = outside; event = heard z }) (message-back quad)
@@ -170,8 +170,8 @@ module _ (k : Kind) (m : Message) (h : Parts k m) where
   heard-behind =
       let end = run-first k (inside sum (len ∷ (body ++ quad))) 0x03 [] _ read-last in
       let three : run k (inside len (len ∷ [])) (body ++ (quad ++ 0x03 ∷ [])) ≡ _ =
-        quiet-then k (inside len (len ∷ [])) (inside sum (len ∷ body)) body (quad ++ 0x03 ∷ []) (length body) _ walked-body
-        (quiet-then k (inside sum (len ∷ body)) (inside sum (len ∷ (body ++ quad))) quad (0x03 ∷ []) 4 _ walked-quad end) in
+      quiet-then k (inside len (len ∷ [])) (inside sum (len ∷ body)) body (quad ++ 0x03 ∷ []) (length body) _ walked-body
+      (quiet-then k (inside sum (len ∷ body)) (inside sum (len ∷ (body ++ quad))) quad (0x03 ∷ []) 4 _ walked-quad end) in
       let size : length body + 5 ≡ length (inner k m) + 8 = omega (arith, length-append (inner k m) (0x05 ∷ [])) in
       run-first k (inside 0 []) len (body ++ quad ++ 0x03 ∷ []) _ read-len
       ∙ ap (λ (r : Run). record { place = r .place; events = nothing ∷ r .events }) (ap (run k (inside len (len ∷ []))) (append-assoc body quad (0x03 ∷ [])) ∙ three)

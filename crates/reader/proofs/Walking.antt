@@ -81,7 +81,7 @@ module _ (k : Kind) (len : ℕ) where
   walk-front (more {t} {ts} {x} {xs} h p) us pre sum e l =
       let early : length pre < length places = omega (arith, ap length e, length-append us (t ∷ ts), l) in
       let passes : getD (places ++ ending sum) (length pre) none x ≡ true =
-        ap (λ (f : ℕ → Bool). f x) (List·getD-append places (ending sum) none (length pre) early ∙ ap (λ z. getD z (length pre) none) e ∙ ap (λ j. getD (us ++ t ∷ ts) j none) (sym l) ∙ getD-append-seam us t ts none) ∙ h in
+      ap (λ (f : ℕ → Bool). f x) (List·getD-append places (ending sum) none (length pre) early ∙ ap (λ z. getD z (length pre) none) e ∙ ap (λ j. getD (us ++ t ∷ ts) j none) (sym l) ∙ getD-append-seam us t ts none) ∙ h in
       turn sum ((sum + x) % 65536) (sumOn sum (x ∷ xs)) pre x xs
       (step sum pre x passes (λ q. omega arith) ∙ rw (lt-ltb (length pre) (length places) early))
       (walk-front p (us ++ t ∷ []) (pre ++ x ∷ []) ((sum + x) % 65536) (e ∙ sym (append-assoc us (t ∷ []) ts)) (longer us pre t x l))
@@ -93,7 +93,7 @@ module _ (k : Kind) (len : ℕ) where
   walk-ending done us pre sum e l f g = rw append-nil
   walk-ending (more {t} {ts} {x} {xs} h p) us pre sum e l f g =
       let passes : getD (places ++ ending sum) (length pre) none x ≡ true =
-        ap (λ (f : ℕ → Bool). f x) (ap (λ z. getD z (length pre) none) e ∙ ap (λ j. getD (us ++ t ∷ ts) j none) (sym l) ∙ getD-append-seam us t ts none) ∙ h in
+      ap (λ (f : ℕ → Bool). f x) (ap (λ z. getD z (length pre) none) e ∙ ap (λ j. getD (us ++ t ∷ ts) j none) (sym l) ∙ getD-append-seam us t ts none) ∙ h in
       turn sum sum sum pre x xs
       (step sum pre x passes (λ q. omega arith) ∙ rw (le-ltb (length pre) (length places) f))
       (walk-ending p (us ++ t ∷ []) (pre ++ x ∷ []) sum (e ∙ sym (append-assoc us (t ∷ []) ts)) (longer us pre t x l)
