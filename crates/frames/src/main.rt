@@ -91,12 +91,12 @@ fn report(name: &[u8], kind: Kind, built: Built, buf: [u8; 217]) {
     if 217 < n {
         return;
     }
-    show(&buf[..n]);
-    tell(b"  read back: ", reader::listen(kind, &buf[..n]));
+    show(&buf[0..n]);
+    tell(b"  read back: ", reader::listen(kind, &buf[0..n]));
     let mut other = buf;
     let at = n - 2;
     other[at] = 0x40;
-    tell(b"  last BCC byte 40h: ", reader::listen(kind, &other[..n]));
+    tell(b"  last BCC byte 40h: ", reader::listen(kind, &other));
     io::write_all(STDOUT_FILENO, b"  whole with any one byte changed: ");
     count(changed(kind, buf, n));
     io::write_all(STDOUT_FILENO, b"\n");
