@@ -144,9 +144,10 @@ fn whole_in(heard: Heard) -> usize
 fn started(within: bool, count: u8) -> Taken
     ensures { λ r. ⌜ r ≡ takenOf (record { place = inside 0 []; event = cond (within && ltb 0 count) brokenFrame nothing }) ⌝ }
 {
+    let behind = 0;
     let reader = Reader {
         inside: true,
-        count: 0,
+        count: behind,
         sum: 0,
     };
     if !within {
