@@ -1,23 +1,23 @@
 -- Built is all that is read: whatever is heard as whole is the frame of what was heard, and stands at the end of what came.
 use mathlib.Core.Path.{_≡_, refl, sym, ap, _∙_, subst}
-use mathlib.Core.Bool.{Bool, true, false, _&&_, false≢true}
+use mathlib.Core.Bool.{Bool, true}
 use mathlib.Core.Logic.{_⊎_, ⊎-elim, inl, inr}
 use mathlib.Core.List.{List, [], _∷_, _++_, map, append-assoc, append-nil}
-use Prim.Native.Nat.{ℕ, zero, suc, _+_, _-_, _/_, _%_, _≤_, _<_}
+use Prim.Native.Nat.{ℕ, zero, suc, _+_, _%_, _≤_, _<_}
 use native.Mathlib.Decide.{decLt}
 use native.Mathlib.Omega.{arith}
-use lib.Dec.{leb, eqb}
-use lib.ListN.{length, getD, take, drop, replicate, length-append, length-replicate, List·getD-append}
+use lib.Dec.{leb}
+use lib.ListN.{length, getD, replicate, length-append, length-replicate, List·getD-append}
 use lib.Seq.{getD-append-add}
-use borrow.Author.Tests.{eq-eqb, ne-eqb, eqb-true, leb-true, le-leb, lt-ltb, le-ltb}
+use borrow.Author.Tests.{eqb-true, leb-true, lt-ltb, le-ltb}
 use Rattle.wire.specs.Bytes.{within, mayStand, every}
-use Rattle.wire.specs.Frame.{Message, total, bcc, inner, counted, frame, statuses, sendable}
+use Rattle.wire.specs.Frame.{Message, bcc, inner, frame, sendable}
 use Rattle.wire.specs.Places.{is, none, behindData, shortest, longest, front, ending, dataCount}
 use Rattle.wire.specs.declared.Kind.{Kind}
 use Rattle.wire.specs.declared.Kind.the-variants.{Command, Answer}
 use Rattle.wire.specs.declared.Sort.the-variants.{Mark, Data, Status}
 use Rattle.wire.proofs.Suits.{both, length-front}
-use Rattle.reader.specs.Reading.{Place, outside, inside, Event, nothing, heard, Read, read, message, suits, atLast, grown}
+use Rattle.reader.specs.Reading.{message, suits, atLast, grown}
 use Rattle.reader.proofs.Passing.{Pass, done, more, pass-short, pass-snoc}
 use Rattle.reader.proofs.Walking.{sumOn, sum-snoc}
 use Rattle.reader.proofs.RoundTrip.{Parts, length-inner, len, body, quad, message-back, quad-is, sendable-parts}

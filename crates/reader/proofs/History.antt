@@ -3,7 +3,7 @@ use mathlib.Core.Path.{_≡_, refl, sym, ap, _∙_, subst}
 use mathlib.Core.Bool.{Bool, true, false, cond, false≢true}
 use mathlib.Core.Logic.{_⊎_, ⊎-elim, inl, inr}
 use mathlib.Core.List.{List, [], _∷_, _++_, append-assoc, append-nil}
-use Prim.Native.Nat.{ℕ, zero, suc, _+_, _≤_, _<_}
+use Prim.Native.Nat.{ℕ, _+_}
 use native.Mathlib.Omega.{arith}
 use lib.Dec.{eqb}
 use lib.ListN.{length}
@@ -11,7 +11,7 @@ use borrow.Author.Tests.{eqb-true}
 use Rattle.wire.specs.Frame.{Message, frame, sendable}
 use Rattle.wire.specs.Places.{front, dataCount}
 use Rattle.wire.specs.declared.Kind.{Kind}
-use Rattle.reader.specs.Reading.{Place, outside, inside, Event, nothing, brokenFrame, heard, Read, read, readOther, startsAnew, goesOn, standing, message, suits, atLast, grown, Run, run}
+use Rattle.reader.specs.Reading.{Place, outside, inside, heard, Read, read, readOther, startsAnew, message, suits, atLast, grown, run}
 use Rattle.reader.proofs.Steps.{reads-broken, reads-more, reads-whole}
 use Rattle.reader.proofs.Passing.{done}
 use Rattle.reader.proofs.BuiltOnly.{Grown, grow, cases, whole-ending}

@@ -1,15 +1,14 @@
 -- A list of bytes that passes a list of tests, one to a byte.
-use mathlib.Core.Path.{_≡_, refl, sym, ap, _∙_}
-use mathlib.Core.Bool.{Bool, true, false, _&&_, false≢true}
-use mathlib.Core.List.{List, [], _∷_, _++_, append-assoc}
-use Prim.Native.Nat.{ℕ, zero, suc, _+_, _-_, _/_, _≤_, _<_}
+use mathlib.Core.Path.{_≡_, refl, sym, _∙_}
+use mathlib.Core.Bool.{Bool, true, false, false≢true}
+use mathlib.Core.List.{List, [], _∷_, _++_}
+use Prim.Native.Nat.{ℕ, zero, suc, _/_, _≤_}
 use native.Mathlib.Omega.{arith}
-use lib.Dec.{eqb}
-use lib.ListN.{length, getD, take, drop, replicate, length-append}
-use borrow.Author.Tests.{ne-eqb, eqb-true}
+use lib.ListN.{length, getD, replicate}
+use borrow.Author.Tests.{ne-eqb}
 use Rattle.wire.specs.Bytes.{mayStand, every}
 use Rattle.wire.specs.Places.{is, none, behindData, front, ending}
-use Rattle.wire.specs.Frame.{bcc, hexadecimal}
+use Rattle.wire.specs.Frame.{hexadecimal}
 use Rattle.wire.specs.declared.Kind.{Kind}
 use Rattle.wire.specs.declared.Kind.the-variants.{Command, Answer}
 use Rattle.wire.specs.declared.Sort.the-variants.{Mark, Data, Status}

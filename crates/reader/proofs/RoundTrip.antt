@@ -1,15 +1,15 @@
 -- Read what was built: the frame of whatever can be sent, read from any place, is heard as exactly that.
 use mathlib.Core.Path.{_≡_, refl, sym, ap, _∙_}
-use mathlib.Core.Bool.{Bool, true, false, _&&_}
+use mathlib.Core.Bool.{Bool, true, _&&_}
 use mathlib.Core.List.{List, [], _∷_, _++_, append-assoc, append-nil}
-use Prim.Native.Nat.{ℕ, zero, suc, _+_, _-_, _/_, _%_, _≤_, _<_}
+use Prim.Native.Nat.{ℕ, suc, _+_, _/_, _%_, _≤_}
 use native.Mathlib.Omega.{arith}
 use lib.Dec.{leb, eqb}
 use lib.ListN.{length, getD, take, drop, replicate, length-append, length-replicate, replicate-append-replicate}
-use lib.Seq.{getD-append-add, take-at, drop-at, drop-append-add}
-use borrow.Author.Tests.{ne-eqb, eq-eqb, eqb-true, leb-true, le-leb}
+use lib.Seq.{getD-append-add, take-at, drop-at}
+use borrow.Author.Tests.{eq-eqb, eqb-true, leb-true, le-leb}
 use Rattle.wire.specs.Bytes.{mayStand, every}
-use Rattle.wire.specs.Frame.{Message, total, bcc, hexadecimal, inner, counted, enclosed, frame, statuses, carriable, sendable}
+use Rattle.wire.specs.Frame.{Message, total, bcc, hexadecimal, inner, counted, frame, statuses, carriable, sendable}
 use Rattle.wire.specs.Places.{is, none, behindData, shortest, longest, front, ending, dataCount}
 use Rattle.wire.specs.Replies.{room}
 use Rattle.wire.specs.declared.Kind.{Kind}
@@ -17,10 +17,10 @@ use Rattle.wire.specs.declared.Kind.the-variants.{Command, Answer}
 use Rattle.wire.specs.declared.Sort.the-variants.{Mark, Data, Status}
 use Rattle.wire.proofs.Suits.{both, length-front, behind-small}
 use Rattle.wire.proofs.Building.{bcc-mod, length-enclosed}
-use Rattle.reader.specs.Reading.{Place, outside, inside, Event, nothing, heard, Read, read, startsAnew, message, Run, run}
+use Rattle.reader.specs.Reading.{Place, outside, inside, Event, nothing, heard, read, startsAnew, message, Run, run}
 use Rattle.reader.proofs.Steps.{read-start, read-other, reads-whole, len-more}
-use Rattle.reader.proofs.Passing.{Pass, done, more, pass-join, pass-every, pass-short}
-use Rattle.reader.proofs.Walking.{sumOn, sum-total, run-first, run-append, quiet, quiet-then, walk-front, walk-ending}
+use Rattle.reader.proofs.Passing.{Pass, done, more, pass-join, pass-every}
+use Rattle.reader.proofs.Walking.{sumOn, sum-total, run-first, quiet, quiet-then, walk-front, walk-ending}
 
 -- what "can be sent" says, part by part
 pub record Parts (k : Kind) (m : Message) : Type 0 where

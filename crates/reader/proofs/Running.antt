@@ -2,13 +2,13 @@
 use mathlib.Core.Path.{_≡_, refl, sym, ap, _∙_, subst}
 use mathlib.Core.Bool.{Bool, true, false, cond}
 use mathlib.Core.List.{List, [], _∷_, _++_}
-use Prim.Native.Nat.{ℕ, zero, suc, _+_, _≤_, _<_}
+use Prim.Native.Nat.{ℕ, suc, _+_, _≤_, _<_}
 use native.Mathlib.Nat.{add-assoc, add-zero, zero-add}
 use native.Mathlib.Numerals.{add-one}
 use native.Mathlib.Omega.{arith}
 use lib.Dec.{eqb}
 use lib.ListN.{length, getD, take, drop, replicate, length-append, length-replicate, length-take, drop-of-length-le}
-use lib.Seq.{sets, sets-eq, length-sets, take-at, drop-cons, length-take-le}
+use lib.Seq.{sets-eq, length-sets, take-at, drop-cons}
 use Rattle.reader.specs.Private.{brokenOf, wholeOf}
 use Rattle.reader.specs.Reading.{Place, outside, inside, Read, Event, nothing, brokenFrame, heard, Standing, broken, beginning, whole, standing, goesOn, grown, message, startsAnew, read, readOther, Run, run}
 use Rattle.wire.specs.Frame.{Message}

@@ -3,23 +3,22 @@ use mathlib.Core.Path.{_≡_, refl, sym, ap, _∙_}
 use mathlib.Core.Bool.{Bool, true, false, cond, _&&_}
 use mathlib.Core.List.{List, [], _∷_, _++_}
 use Prim.Native.Nat.{ℕ, zero, suc, _+_, _-_, _%_, _≤_, _<_}
-use native.Mathlib.Numerals.{add-one}
 use native.Mathlib.Omega.{arith}
-use lib.Dec.{leb, ltb, eqb}
+use lib.Dec.{ltb, eqb}
 use lib.ListN.{length, getD, take, drop, set, length-append, length-drop, List·getD-append}
-use lib.Seq.{sets, getD-append-add, length-take-le, getD-take}
+use lib.Seq.{getD-append-add, length-take-le, getD-take}
 use borrow.Author.Tests.{le-leb, lt-leb, lt-ltb, le-ltb, eq-eqb, ne-eqb}
 use Rattle.text.proofs.Laws.{sets-append, sets-same}
-use Rattle.wire.proofs.Suits.{length-front, behind-small}
-use Rattle.wire.specs.Bytes.{within, mayStand}
-use Rattle.wire.specs.Places.{front, ending, none, dataCount, shortest, longest, behindData}
-use Rattle.reader.specs.Reading.{Place, outside, inside, Read, Event, nothing, brokenFrame, heard, suits, atLast, grown, message, read, readOther, startsAnew}
-use Rattle.reader.specs.Fields.{readerOf, heardOf, keptIn, takenOf, placeOf}
+use Rattle.wire.proofs.Suits.{length-front}
+use Rattle.wire.specs.Bytes.{within}
+use Rattle.wire.specs.Places.{front, ending, none, shortest, longest}
+use Rattle.reader.specs.Reading.{Place, outside, inside, Read, nothing, brokenFrame, heard, suits, atLast, grown, message, read, readOther, startsAnew}
+use Rattle.reader.specs.Fields.{heardOf, keptIn, takenOf, placeOf}
 use Rattle.reader.specs.Private.{Behind}
 use Rattle.wire.specs.declared.Kind.{Kind}
 use Rattle.reader.specs.declared.Reader.{Reader}
 use Rattle.reader.specs.declared.Taken.{Taken}
-use Rattle.reader.specs.declared.Heard.the-variants.{Nothing, Broken, Whole}
+use Rattle.reader.specs.declared.Heard.the-variants.{Nothing, Whole}
 
 -- what a place inside a frame becomes, by the three answers
 module _ (k : Kind) (sum : ℕ) (bytes : List ℕ) (b : ℕ) where

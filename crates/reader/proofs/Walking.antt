@@ -1,8 +1,8 @@
 -- Bytes that pass their tests are taken in silence.
 use mathlib.Core.Path.{_≡_, refl, sym, ap, _∙_}
-use mathlib.Core.Bool.{Bool, true, false}
+use mathlib.Core.Bool.{Bool, true}
 use mathlib.Core.List.{List, [], _∷_, _++_, append-assoc, append-nil}
-use Prim.Native.Nat.{ℕ, zero, suc, _+_, _-_, _%_, _≤_, _<_}
+use Prim.Native.Nat.{ℕ, suc, _+_, _%_, _≤_, _<_}
 use native.Mathlib.Omega.{arith}
 use lib.ListN.{length, getD, replicate, length-append, List·getD-append}
 use lib.Seq.{getD-append-seam}
@@ -10,7 +10,7 @@ use borrow.Author.Tests.{ne-eqb, lt-ltb, le-ltb}
 use Rattle.wire.specs.Frame.{total}
 use Rattle.wire.specs.Places.{none, front, ending, dataCount}
 use Rattle.wire.specs.declared.Kind.{Kind}
-use Rattle.reader.specs.Reading.{Place, outside, inside, Event, nothing, Read, read, Run, run, grown}
+use Rattle.reader.specs.Reading.{Place, inside, nothing, Read, read, Run, run, grown}
 use Rattle.reader.proofs.Steps.{read-other, reads-more}
 use Rattle.reader.proofs.Passing.{Pass, done, more, not-01}
 

@@ -1,9 +1,9 @@
 -- What the functions of this layer answer, with document 01's numbers.
-use Prim.Native.Nat.{ℕ, _+_}
-use mathlib.Core.Bool.{Bool, true, false, cond}
-use mathlib.Core.List.{List, [], _∷_, _++_}
+use Prim.Native.Nat.{ℕ}
+use mathlib.Core.Bool.{cond}
+use mathlib.Core.List.{List}
 use lib.Dec.{ltb}
-use lib.ListN.{length, take}
+use lib.ListN.{length}
 use lib.Seq.{sets}
 use Rattle.wire.specs.Frame.{Message, frame, sendable}
 use Rattle.wire.specs.declared.Kind.{Kind}
@@ -28,6 +28,7 @@ replyOf (Frame count) buffer = record { number = 0; count = count; buffer = buff
 replyOf Short buffer = record { number = 7; count = 0; buffer = buffer }
 replyOf Unsendable buffer = record { number = 8; count = 0; buffer = buffer }
 
+-- `sets buffer 0 bytes` is the buffer with these bytes from its front on.
 -- "Order: 7, 8"; "Buffer bytes past the answer stay as they were; when nothing is given back, all do."
 abbrev pub building : Kind → List ℕ → Message → Reply
 building k buffer m =

@@ -5,18 +5,13 @@ use lib.ListN.{List·getD-eq-default}
 use borrow.Author.Needs.{needs}
 use Rattle.reader.proofs.first.Statement.{statement}
 use Rattle.reader.proofs.first.Tie as tie
-use Rattle.reader.proofs.first.Reads as reads
-use Rattle.reader.proofs.first.Lts as lts
 
--- src/reading.rt:55:9
 returns : tie.Need-returns
 returns c = sym (List·getD-eq-default (now (c .before .args .bytes)) 0 {n = 0} (omega arith))
 
--- src/reading.rt:57:5
 shared-slice-read-result : tie.Need-shared-slice-read-result
 shared-slice-read-result c = search needs
 
--- src/reading.rt:51:1
 returns-2 : tie.Need-returns-2
 returns-2 c = search needs
 

@@ -1,4 +1,3 @@
-use mathlib.Core.Path.{_≡_, refl, sym, ap, _∙_}
 use Prim.Native.Nat.{_-_}
 use native.Mathlib.Omega.{arith}
 use borrow.Author.Needs.{needs}
@@ -7,12 +6,6 @@ use lib.ListN.{length}
 use Rattle.reader.proofs.Running.{Head, head-start, head-turn, head-done, few-broken, few-whole}
 use Rattle.reader.proofs.listen.Statement.{statement}
 use Rattle.reader.proofs.listen.Tie as tie
-use Rattle.reader.proofs.listen.Reads as reads
-use Rattle.reader.proofs.listen.Lts as lts
-use Rattle.reader.proofs.broken_in.Reads as broken-in-reads
-use Rattle.reader.proofs.fresh.Reads as fresh-reads
-use Rattle.reader.proofs.take_byte.Reads as take-byte-reads
-use Rattle.reader.proofs.whole_in.Reads as whole-in-reads
 
 abbrev Inv-loop : tie.InvT-loop
 Inv-loop kind bytes array₀ reader₀ broken₀ whole₀ i₀ array reader broken whole i = Head kind bytes array reader broken whole i
@@ -20,47 +13,36 @@ Inv-loop kind bytes array₀ reader₀ broken₀ whole₀ i₀ array reader brok
 abbrev μ-loop : tie.MeasureT-loop
 μ-loop kind bytes array₀ reader₀ broken₀ whole₀ i₀ array reader broken whole i = length bytes - i
 
--- src/reading.rt:66:9
 fresh-requires : tie.Need-fresh-requires Inv-loop μ-loop
 fresh-requires c κs = search needs
 
--- src/reading.rt:70:5
 loop-holds : tie.Need-loop-holds Inv-loop μ-loop
 loop-holds c = head-start (c .before .before .args .kind) (now (c .before .before .args .bytes)) _ (c .fresh .ensures)
 
--- src/reading.rt:71:57
 shared-slice-read-take-byte : tie.Need-shared-slice-read-take-byte Inv-loop μ-loop
 shared-slice-read-take-byte c = omega arith
 
--- src/reading.rt:71:13
 take-byte-requires : tie.Need-take-byte-requires Inv-loop μ-loop
 take-byte-requires c κs = search needs
 
--- src/reading.rt:75:19
 broken-in-requires : tie.Need-broken-in-requires Inv-loop μ-loop
 broken-in-requires c κs = search needs
 
--- src/reading.rt:75:9
 add-broken : tie.Need-add-broken Inv-loop μ-loop
 add-broken c = omega (arith, c .broken-in .ensures, few-broken (c .before .before .take-byte .result .heard), c .before .before .before .before .before .before .loop .inv .broken-few)
 
--- src/reading.rt:76:18
 whole-in-requires : tie.Need-whole-in-requires Inv-loop μ-loop
 whole-in-requires c κs = search needs
 
--- src/reading.rt:76:9
 add-whole : tie.Need-add-whole Inv-loop μ-loop
 add-whole c = omega (arith, c .whole-in .ensures, few-whole (c .before .before .before .take-byte .result .heard), c .before .before .before .before .before .before .before .loop .inv .whole-few)
 
--- src/reading.rt:77:9
 add-i : tie.Need-add-i Inv-loop μ-loop
 add-i c = omega arith
 
--- src/reading.rt:70:5
 loop-less : tie.Need-loop-less Inv-loop μ-loop
 loop-less c = omega arith
 
--- src/reading.rt:70:5
 loop-again : tie.Need-loop-again Inv-loop μ-loop
 loop-again c =
     let at = c .before .before .before .before .before .before .before .loop in
@@ -68,7 +50,6 @@ loop-again c =
     head-turn (c .before .before .before .before .before .before .before .before .before .before .args .kind) (now (c .before .before .before .before .before .before .before .before .before .before .args .bytes)) (at .array) (at .reader) (at .broken) (at .whole) (at .i) (at .inv) (c .before .before .before .before .before .before .loop-test .taken)
     _ (t .result) (t .ensures .0) (t .ensures .1) (omega (arith, t .ok)) _ _ (c .before .broken-in .ensures) (c .whole-in .ensures)
 
--- src/reading.rt:62:1
 returns : tie.Need-returns Inv-loop μ-loop
 returns c = head-done (c .before .before .before .before .args .kind) (now (c .before .before .before .before .args .bytes)) (c .before .loop .array) (c .before .loop .reader) _ _ (c .before .loop .i) (c .before .loop .inv) (c .loop-test .left)
 

@@ -1,39 +1,24 @@
-use mathlib.Core.Bool.{true, false}
 use mathlib.Core.List.{[]}
-use Prim.Native.Nat.{_<_}
 use lib.ListN.{length, take}
 use borrow.Author.Tests.{not-true, not-false}
 use Rattle.wire.specs.Places.{dataCount}
 use Rattle.reader.specs.Reading.{inside, readOther}
-use Rattle.reader.specs.Fields.{takenOf}
+use Rattle.reader.specs.Fields.{takenOf, placeOf}
 use Rattle.wire.proofs.Suits.{behind-small}
-use Rattle.reader.proofs.Steps.{place-in, place-out}
+use Rattle.reader.proofs.Steps.{place-in, place-out, reads, read-start, read-other, starts}
 use mathlib.Core.Path.{_≡_, refl, sym, ap, _∙_}
 use native.Mathlib.Omega.{arith}
 use denote.Ref.{now}
-use Rattle.reader.specs.Fields.{placeOf}
-use Rattle.reader.proofs.Steps.{reads, read-start, read-other, starts}
 use borrow.Author.Needs.{needs}
 use Rattle.reader.proofs.take_byte.Statement.{statement}
 use Rattle.reader.proofs.take_byte.Tie as tie
-use Rattle.reader.proofs.take_byte.Reads as reads
-use Rattle.reader.proofs.take_byte.Lts as lts
-use Rattle.reader.proofs.first.Reads as first-reads
-use Rattle.reader.proofs.fresh.Reads as fresh-reads
-use Rattle.reader.proofs.started.Reads as started-reads
-use Rattle.reader.proofs.take_behind.Reads as take-behind-reads
-use Rattle.reader.proofs.take_len.Reads as take-len-reads
-use Rattle.wire.proofs.suit.data_count.Reads as data-count-reads
 
--- src/reading.rt:32:9
 first-requires : tie.Need-first-requires
 first-requires c κs = search needs
 
--- src/reading.rt:36:9
 started-requires : tie.Need-started-requires
 started-requires c κs = search needs
 
--- src/reading.rt:36:9
 returns : tie.Need-returns
 returns c =
     let s = c .before .before .before .before .before in
@@ -44,11 +29,9 @@ returns c =
     (c .started .ensures ∙ ap (λ e. takenOf (record { place = inside 0 []; event = e })) (sym (starts (a .reader) (now (a .array)) size)))
     refl
 
--- src/reading.rt:40:21
 fresh-requires : tie.Need-fresh-requires
 fresh-requires c κs = search needs
 
--- src/reading.rt:39:9
 returns-2 : tie.Need-returns-2
 returns-2 c =
     let s = c .before .before .before .before .before .before in
@@ -58,11 +41,9 @@ returns-2 c =
     ∙ ap (λ p. readOther (a .kind) p (a .b)) (place-out (a .reader) (now (a .array)) (not-true _ (c .before .if2 .taken))))
     (rw (c .fresh .ensures)) refl
 
--- src/reading.rt:45:9
 take-len-requires : tie.Need-take-len-requires
 take-len-requires c κs = search needs
 
--- src/reading.rt:45:9
 returns-3 : tie.Need-returns-3
 returns-3 c =
     let s = c .before .before .before .before .before .before .before .before in
@@ -73,11 +54,9 @@ returns-3 c =
     ∙ ap (λ n. readOther (a .kind) (inside (a .reader .sum) (take n (now (a .array)))) (a .b)) (c .before .before .if3 .taken))
     (c .take-len .ensures .0) (c .take-len .ensures .1)
 
--- src/reading.rt:47:23
 data-count-requires : tie.Need-data-count-requires
 data-count-requires c κs = search needs
 
--- src/reading.rt:47:5
 take-behind-requires : tie.Need-take-behind-requires
 take-behind-requires c κs =
     let s = c .before .before .before .before .before .before .before .before in
@@ -91,7 +70,6 @@ take-behind-requires c κs =
       size = size;
     }
 
--- src/reading.rt:28:1
 returns-4 : tie.Need-returns-4
 returns-4 c =
     let s = c .before .before .before .before .before .before .before .before .before in

@@ -1,40 +1,28 @@
-use mathlib.Core.Path.{_≡_, refl, sym, ap, _∙_}
+use mathlib.Core.Path.{refl, sym, _∙_}
 use native.Mathlib.Omega.{arith}
 use Prim.Native.Nat.{_-_, _<_}
 use denote.Ref.{now}
-use Rattle.wire.proofs.Suits.{behind-small, length-front, ending-in}
+use Rattle.wire.proofs.Suits.{length-front, ending-in}
 use Rattle.wire.specs.Places.{front}
-use Rattle.reader.specs.Reading.{inside}
-use mathlib.Core.List.{[], _∷_, _++_}
-use lib.ListN.{take, getD, length}
+use lib.ListN.{length}
 use borrow.Author.Tests.{not-true, not-false}
 use Rattle.reader.proofs.Steps.{reads, ending-broken, ending-more, ending-whole, heard-whole, more}
 use borrow.Author.Needs.{needs}
 use Rattle.reader.proofs.take_ending.Statement.{statement}
 use Rattle.reader.proofs.take_ending.Tie as tie
-use Rattle.reader.proofs.take_ending.Reads as reads
-use Rattle.reader.proofs.take_ending.Lts as lts
-use Rattle.reader.proofs.broken.Reads as broken-reads
-use Rattle.reader.proofs.fresh.Reads as fresh-reads
-use Rattle.wire.proofs.suit.suits_ending.Reads as suits-ending-reads
 
--- src/reading.rt:160:14
 sub-at : tie.Need-sub-at
 sub-at c = search needs
 
--- src/reading.rt:160:14
 sub-at-2 : tie.Need-sub-at-2
 sub-at-2 c = search needs
 
--- src/reading.rt:161:9
 suits-ending-requires : tie.Need-suits-ending-requires
 suits-ending-requires c κs = search needs
 
--- src/reading.rt:162:9
 broken-requires : tie.Need-broken-requires
 broken-requires c κs = search needs
 
--- src/reading.rt:162:9
 returns : tie.Need-returns
 returns c =
     let s = c .before .before .before in
@@ -44,19 +32,15 @@ returns c =
     (rw (s .pre .1 .0) at (sym (c .before .before .suits-ending .ensures) ∙ not-true _ (c .before .if1 .taken))))
     (c .broken .ensures) refl
 
--- src/reading.rt:166:21
 fresh-requires : tie.Need-fresh-requires
 fresh-requires c κs = search needs
 
--- src/reading.rt:168:22
 element-copy-out-t16 : tie.Need-element-copy-out-t16
 element-copy-out-t16 c = search needs
 
--- src/reading.rt:169:23
 element-copy-out-t19 : tie.Need-element-copy-out-t19
 element-copy-out-t19 c = search needs
 
--- src/reading.rt:165:9
 returns-2 : tie.Need-returns-2
 returns-2 c =
     let s = c .before .before .before .before .before .before in
@@ -67,17 +51,14 @@ returns-2 c =
     (ending-whole (a .kind) (a .n) (a .count) (now (a .array)) (s .pre .0) (s .fits .count .fits) (a .sum) (a .b) past (rw (s .pre .1 .0) at (sym (c .before .before .before .before .before .suits-ending .ensures) ∙ not-false _ (c .before .before .before .before .if1 .left))) four)
     (rw (c .before .before .fresh .ensures, heard-whole (a .kind) (a .n) (a .count) (now (a .array)) (s .pre .0) (s .fits .count .fits) (a .sum) (a .b) past four) refl) refl
 
--- src/reading.rt:174:5
 element-write-array : tie.Need-element-write-array
 element-write-array c = search needs
 
--- src/reading.rt:178:20
 add-t23 : tie.Need-add-t23
 add-t23 c =
     let s = c .before .before .before in
     omega (arith, s .pre .0 .small, length-front (s .args .kind) (s .args .n), ending-in (s .args .sum) (s .args .count - 1 - s .args .edge) (s .args .b) (sym (c .before .before .suits-ending .ensures) ∙ not-false _ (c .before .if1 .left)))
 
--- src/reading.rt:152:1
 returns-3 : tie.Need-returns-3
 returns-3 c =
     let s = c .before .before .before in

@@ -1,33 +1,22 @@
-use mathlib.Core.Path.{_≡_, refl, sym, ap, _∙_}
+use mathlib.Core.Path.{refl, sym, _∙_}
 use native.Mathlib.Omega.{arith}
 use denote.Ref.{now}
-use Rattle.wire.proofs.Suits.{behind-small, length-front, ending-in}
-use Rattle.reader.specs.Reading.{inside}
-use mathlib.Core.List.{[], _∷_, _++_}
-use lib.ListN.{take, getD, length}
+use Rattle.wire.proofs.Suits.{length-front}
 use borrow.Author.Tests.{not-true, not-false}
 use Rattle.reader.proofs.Steps.{reads, front-broken, front-more, more}
 use borrow.Author.Needs.{needs}
 use Rattle.reader.proofs.take_front.Statement.{statement}
 use Rattle.reader.proofs.take_front.Tie as tie
-use Rattle.reader.proofs.take_front.Reads as reads
-use Rattle.reader.proofs.take_front.Lts as lts
-use Rattle.reader.proofs.broken.Reads as broken-reads
-use Rattle.wire.proofs.suit.suits_front.Reads as suits-front-reads
 
--- src/reading.rt:137:36
 sub-suits-front : tie.Need-sub-suits-front
 sub-suits-front c = search needs
 
--- src/reading.rt:137:9
 suits-front-requires : tie.Need-suits-front-requires
 suits-front-requires c κs = search needs
 
--- src/reading.rt:138:9
 broken-requires : tie.Need-broken-requires
 broken-requires c κs = search needs
 
--- src/reading.rt:138:9
 returns : tie.Need-returns
 returns c =
     let s = c .before .before .before in
@@ -37,23 +26,18 @@ returns c =
     (sym (c .before .before .suits-front .ensures) ∙ not-true _ (c .before .if1 .taken)))
     (c .broken .ensures) refl
 
--- src/reading.rt:140:5
 element-write-array : tie.Need-element-write-array
 element-write-array c = search needs
 
--- src/reading.rt:144:20
 add-t13 : tie.Need-add-t13
 add-t13 c = omega (arith, c .before .before .pre .0 .small, length-front (c .before .before .args .kind) (c .before .before .args .n))
 
--- src/reading.rt:145:20
 add-t16 : tie.Need-add-t16
 add-t16 c = search needs
 
--- src/reading.rt:145:18
 cast-t18 : tie.Need-cast-t18
 cast-t18 c = search needs
 
--- src/reading.rt:130:1
 returns-2 : tie.Need-returns-2
 returns-2 c =
     let s = c .before .before in

@@ -7,9 +7,6 @@ use lib.Seq.{sets, length-sets}
 use Rattle.text.proofs.Laws.{copy-turn, copy-done}
 use Rattle.text.proofs.copy.Statement.{statement}
 use Rattle.text.proofs.copy.Tie as tie
-use Rattle.text.proofs.copy.Reads as reads
-use Rattle.text.proofs.copy.Lts as lts
-use Rattle.text.proofs.put_byte.Reads as put-byte-reads
 
 abbrev Inv-loop : tie.InvT-loop
 Inv-loop part₀ src i₀ part i = (i ≤ length src) × (sets part i (drop i src) ≡ sets part₀ 0 src)
@@ -17,27 +14,21 @@ Inv-loop part₀ src i₀ part i = (i ≤ length src) × (sets part i (drop i sr
 abbrev μ-loop : tie.MeasureT-loop
 μ-loop part₀ src i₀ part i = length src - i
 
--- src/lib.rt:31:5
 loop-holds : tie.Need-loop-holds Inv-loop μ-loop
 loop-holds c = (omega arith, refl)
 
--- src/lib.rt:32:27
 shared-slice-read-put-byte : tie.Need-shared-slice-read-put-byte Inv-loop μ-loop
 shared-slice-read-put-byte c = omega arith
 
--- src/lib.rt:32:9
 put-byte-requires : tie.Need-put-byte-requires Inv-loop μ-loop
 put-byte-requires c κs = search needs
 
--- src/lib.rt:33:9
 add-i : tie.Need-add-i Inv-loop μ-loop
 add-i c = omega arith
 
--- src/lib.rt:31:5
 loop-less : tie.Need-loop-less Inv-loop μ-loop
 loop-less c = omega arith
 
--- src/lib.rt:31:5
 loop-again : tie.Need-loop-again Inv-loop μ-loop
 loop-again c =
     let turn = c .before .before .before .before .before in (
@@ -45,11 +36,9 @@ loop-again c =
       rw (c .before .before .put-byte .ensures) (sym (copy-turn _ _ _ 0 (turn .loop-test .taken)) ∙ turn .before .loop .inv .1),
     )
 
--- src/lib.rt:27:1
 same-length : tie.Need-same-length Inv-loop μ-loop
 same-length c = simp length-sets at (ap length (c .before .loop .inv .1))
 
--- src/lib.rt:27:1
 returns : tie.Need-returns Inv-loop μ-loop
 returns c = sym (copy-done _ _ _ (c .loop-test .left)) ∙ c .before .loop .inv .1
 

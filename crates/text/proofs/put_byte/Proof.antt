@@ -3,22 +3,16 @@ use mathlib.Core.Path.{sym}
 use lib.Seq.{set-out}
 use Rattle.text.proofs.put_byte.Statement.{statement}
 use Rattle.text.proofs.put_byte.Tie as tie
-use Rattle.text.proofs.put_byte.Reads as reads
-use Rattle.text.proofs.put_byte.Lts as lts
 
--- src/lib.rt:13:9
 slice-write-buf : tie.Need-slice-write-buf
 slice-write-buf c = search needs
 
--- src/lib.rt:9:1
 same-length : tie.Need-same-length
 same-length c = search needs
 
--- src/lib.rt:9:1
 returns : tie.Need-returns
 returns c = search needs
 
--- src/lib.rt:9:1
 returns-2 : tie.Need-returns-2
 returns-2 c = sym (set-out _ _ _ (c .if1 .left))
 

@@ -6,37 +6,27 @@ use Rattle.text.proofs.Laws.{part-back, sets-out}
 use borrow.Author.Needs.{needs}
 use Rattle.text.proofs.put_field.Statement.{statement}
 use Rattle.text.proofs.put_field.Tie as tie
-use Rattle.text.proofs.put_field.Reads as reads
-use Rattle.text.proofs.put_field.Lts as lts
-use Rattle.text.proofs.write_digits.Reads as write-digits-reads
 
--- src/lib.rt:55:22
 sub-write-digits : tie.Need-sub-write-digits
 sub-write-digits c = search needs
 
--- src/lib.rt:55:22
 part-write-digits-start : tie.Need-part-write-digits-start
 part-write-digits-start c = search needs
 
--- src/lib.rt:55:22
 part-write-digits-end : tie.Need-part-write-digits-end
 part-write-digits-end c = search needs
 
--- src/lib.rt:55:9
 write-digits-requires : tie.Need-write-digits-requires
 write-digits-requires c κs = search needs
 
--- src/lib.rt:51:1
 same-length : tie.Need-same-length
 same-length c = search needs
 
--- src/lib.rt:51:1
 returns : tie.Need-returns
 returns c =
     let s = c .before .before .before .before .before .before in
     part-back (s .args .at) (now (s .args .buf)) _ (digits (s .args .width) (s .args .n)) (c .before .before .write-digits .ensures)
 
--- src/lib.rt:51:1
 returns-2 : tie.Need-returns-2
 returns-2 c =
     let s = c .before .before in

@@ -1,4 +1,4 @@
-use Prim.Native.Nat.{_≤_, _-_}
+use Prim.Native.Nat.{_≤_}
 use mathlib.Core.Path.{_≡_, refl, sym, ap, _∙_}
 use native.Mathlib.Omega.{arith}
 use borrow.Author.Needs.{needs}
@@ -8,9 +8,6 @@ use Rattle.text.specs.Digits.{digits}
 use Rattle.text.proofs.Laws.{digits-turn}
 use Rattle.text.proofs.write_digits.Statement.{statement}
 use Rattle.text.proofs.write_digits.Tie as tie
-use Rattle.text.proofs.write_digits.Reads as reads
-use Rattle.text.proofs.write_digits.Lts as lts
-use Rattle.text.proofs.put_byte.Reads as put-byte-reads
 
 abbrev Inv-loop : tie.InvT-loop
 Inv-loop part₀ width n left₀ i₀ part left i = (i ≤ width) × (sets part 0 (digits i left) ≡ sets part₀ 0 (digits width n))
@@ -18,31 +15,24 @@ Inv-loop part₀ width n left₀ i₀ part left i = (i ≤ width) × (sets part 
 abbrev μ-loop : tie.MeasureT-loop
 μ-loop part₀ width n left₀ i₀ part left i = i
 
--- src/lib.rt:43:5
 loop-holds : tie.Need-loop-holds Inv-loop μ-loop
 loop-holds c = (omega arith, refl)
 
--- src/lib.rt:44:9
 sub-i : tie.Need-sub-i Inv-loop μ-loop
 sub-i c = omega arith
 
--- src/lib.rt:45:32
 cast-put-byte : tie.Need-cast-put-byte Inv-loop μ-loop
 cast-put-byte c = omega arith
 
--- src/lib.rt:45:27
 add-put-byte : tie.Need-add-put-byte Inv-loop μ-loop
 add-put-byte c = omega arith
 
--- src/lib.rt:45:9
 put-byte-requires : tie.Need-put-byte-requires Inv-loop μ-loop
 put-byte-requires c κs = search needs
 
--- src/lib.rt:43:5
 loop-less : tie.Need-loop-less Inv-loop μ-loop
 loop-less c = omega arith
 
--- src/lib.rt:43:5
 loop-again : tie.Need-loop-again Inv-loop μ-loop
 loop-again c =
     let turn = c .before .before .before .before in (
@@ -50,11 +40,9 @@ loop-again c =
       rw (c .before .before .put-byte .ensures) (sym (digits-turn _ _ _ (turn .loop-test .taken)) ∙ turn .before .loop .inv .1),
     )
 
--- src/lib.rt:38:1
 same-length : tie.Need-same-length Inv-loop μ-loop
 same-length c = simp length-sets at (ap length (c .before .loop .inv .1))
 
--- src/lib.rt:38:1
 returns : tie.Need-returns Inv-loop μ-loop
 unfolding digits
 returns c =

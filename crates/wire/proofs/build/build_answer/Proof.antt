@@ -1,76 +1,56 @@
-use Rattle.wire.proofs.Building.{not-carried, no-status}
-use mathlib.Core.Path.{_≡_, refl, sym, ap, _∙_}
-use mathlib.Core.Bool.{true, false, _&&_}
+use Rattle.wire.proofs.Building.{not-carried, no-status, around, length-enclosed, carriable-short, sendable-answer, too-short, cannot, can}
+use mathlib.Core.Path.{_≡_, sym, _∙_}
 use mathlib.Core.List.{_∷_, _++_}
-use Prim.Native.Nat.{_≤_, _+_}
+use Prim.Native.Nat.{_+_}
 use native.Mathlib.Omega.{arith}
 use borrow.Author.Tests.{not-true, not-false}
 use denote.Ref.{now}
 use lib.ListN.{length, length-append}
 use lib.Seq.{sets}
-use Rattle.wire.specs.Bytes.{every, mayStand}
 use Rattle.wire.specs.Frame.{answerOf, enclosed}
 use Rattle.wire.specs.declared.Kind.the-variants.{Answer}
-use Rattle.wire.specs.declared.Sort.the-variants.{Status}
-use Rattle.wire.proofs.Building.{around, length-enclosed, carriable-short, sendable-answer, too-short, cannot, can}
 use borrow.Author.Needs.{needs}
 use Rattle.wire.proofs.build.build_answer.Statement.{statement}
 use Rattle.wire.proofs.build.build_answer.Tie as tie
-use Rattle.wire.proofs.build.build_answer.Reads as reads
-use Rattle.wire.proofs.build.build_answer.Lts as lts
-use Rattle.text.proofs.put_bytes.Reads as put-bytes-reads
-use Rattle.wire.proofs.build.can_carry.Reads as can-carry-reads
-use Rattle.wire.proofs.build.finish.Reads as finish-reads
-use Rattle.wire.proofs.suit.all_may_stand.Reads as all-may-stand-reads
 
--- src/build.rt:34:9
 returns : tie.Need-returns
 returns c =
     let a = c .before .before .before .args in
     sym (too-short Answer (now (a .buf)) (answerOf (a .seq) (a .code) (now (a .content)) (a .t5)) (c .if1 .taken))
 
--- src/build.rt:36:9
 can-carry-requires : tie.Need-can-carry-requires
 can-carry-requires c κs = search needs
 
--- src/build.rt:37:9
 returns-2 : tie.Need-returns-2
 returns-2 c =
     let a = c .before .before .before .before .before .args in
     let m = answerOf (a .seq) (a .code) (now (a .content)) (a .t5) in
     sym (cannot Answer (now (a .buf)) m (c .before .before .if1 .left) (not-carried Answer m (sym (c .before .can-carry .ensures) ∙ not-true _ (c .if2 .taken))))
 
--- src/build.rt:39:43
 slice-aggregate-all-may-stand : tie.Need-slice-aggregate-all-may-stand
 slice-aggregate-all-may-stand c = search needs
 
--- src/build.rt:39:9
 all-may-stand-requires : tie.Need-all-may-stand-requires
 all-may-stand-requires c κs = search needs
 
--- src/build.rt:40:9
 returns-3 : tie.Need-returns-3
 returns-3 c =
     let a = c .before .before .before .before .before .before .before .before .args in
     let m = answerOf (a .seq) (a .code) (now (a .content)) (a .t5) in
     sym (cannot Answer (now (a .buf)) m (c .before .before .before .before .before .if1 .left) (no-status Answer m (sym (c .before .all-may-stand .ensures) ∙ not-true _ (c .if3 .taken))))
 
--- src/build.rt:42:5
 put-bytes-requires : tie.Need-put-bytes-requires
 put-bytes-requires c κs = search needs
 
--- src/build.rt:43:18
 finish-requires : tie.Need-finish-requires
 finish-requires c κs =
     let a = c .before .before .before .before .before .before .before .before .before .before .before .before .before .args in
     let few = carriable-short (a .seq) (a .code) (now (a .content)) (sym (c .before .before .before .before .before .before .before .before .before .can-carry .ensures) ∙ not-false _ (c .before .before .before .before .before .before .before .before .if2 .left)) in
     (omega arith, omega (arith, c .before .before .before .put-bytes .kept, c .before .before .before .before .before .before .before .before .before .before .if1 .left))
 
--- src/build.rt:30:1
 same-length : tie.Need-same-length
 same-length c = search needs
 
--- src/build.rt:30:1
 returns-4 : tie.Need-returns-4
 returns-4 c =
     let a = c .before .before .before .before .before .before .before .before .before .before .before .before .before .before .before .before .args in

@@ -1,7 +1,4 @@
-use mathlib.Core.Path.{_≡_, refl, sym, ap, _∙_}
-use mathlib.Core.Bool.{true, false}
-use mathlib.Core.List.{[]}
-use Prim.Native.Nat.{_≤_, _+_}
+use mathlib.Core.Path.{_≡_, sym, _∙_}
 use native.Mathlib.Omega.{arith}
 use borrow.Author.Tests.{not-true, not-false}
 use denote.Ref.{now}
@@ -13,45 +10,33 @@ use Rattle.wire.proofs.Building.{around, length-enclosed, carriable-sho
 use borrow.Author.Needs.{needs}
 use Rattle.wire.proofs.build.build_command.Statement.{statement}
 use Rattle.wire.proofs.build.build_command.Tie as tie
-use Rattle.wire.proofs.build.build_command.Reads as reads
-use Rattle.wire.proofs.build.build_command.Lts as lts
-use Rattle.text.proofs.put_bytes.Reads as put-bytes-reads
-use Rattle.wire.proofs.build.can_carry.Reads as can-carry-reads
-use Rattle.wire.proofs.build.enclose.Reads as enclose-reads
 
--- src/build.rt:20:9
 returns : tie.Need-returns
 returns c =
     let a = c .before .before .before .args in
     sym (too-short Command (now (a .buf)) (commandOf (a .seq) (a .code) (now (a .content))) (c .if1 .taken))
 
--- src/build.rt:22:9
 can-carry-requires : tie.Need-can-carry-requires
 can-carry-requires c κs = search needs
 
--- src/build.rt:23:9
 returns-2 : tie.Need-returns-2
 returns-2 c =
     let a = c .before .before .before .before .before .args in
     sym (cannot Command (now (a .buf)) (commandOf (a .seq) (a .code) (now (a .content))) (c .before .before .if1 .left)
     (sendable-command (a .seq) (a .code) (now (a .content)) ∙ sym (c .before .can-carry .ensures) ∙ not-true _ (c .if2 .taken)))
 
--- src/build.rt:25:5
 put-bytes-requires : tie.Need-put-bytes-requires
 put-bytes-requires c κs = search needs
 
--- src/build.rt:26:18
 enclose-requires : tie.Need-enclose-requires
 enclose-requires c κs =
     let a = c .before .before .before .before .before .before .before .before .before .before .args in
     let few = carriable-short (a .seq) (a .code) (now (a .content)) (sym (c .before .before .before .before .before .before .can-carry .ensures) ∙ not-false _ (c .before .before .before .before .before .if2 .left)) in
     (omega arith, omega (arith, c .before .before .before .put-bytes .kept, c .before .before .before .before .before .before .before .if1 .left))
 
--- src/build.rt:16:1
 same-length : tie.Need-same-length
 same-length c = search needs
 
--- src/build.rt:16:1
 returns-3 : tie.Need-returns-3
 returns-3 c =
     let a = c .before .before .before .before .before .before .before .before .before .before .before .before .before .args in

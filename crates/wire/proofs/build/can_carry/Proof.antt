@@ -1,42 +1,27 @@
-use lib.ListN.{length}
-use denote.Ref.{now}
-use mathlib.Core.Path.{_≡_, sym, _∙_}
-use mathlib.Core.Bool.{true, false}
-use native.Mathlib.Omega.{arith}
+use mathlib.Core.Path.{sym, _∙_}
 use borrow.Author.Tests.{not-true, not-false, le-leb, lt-leb}
 use borrow.Author.Needs.{needs}
 use Rattle.wire.proofs.build.can_carry.Statement.{statement}
 use Rattle.wire.proofs.build.can_carry.Tie as tie
-use Rattle.wire.proofs.build.can_carry.Reads as reads
-use Rattle.wire.proofs.build.can_carry.Lts as lts
-use Rattle.wire.proofs.suit.all_may_stand.Reads as all-may-stand-reads
-use Rattle.wire.proofs.suit.may_stand.Reads as may-stand-reads
 
--- src/build.rt:52:9
 may-stand-requires : tie.Need-may-stand-requires
 may-stand-requires c κs = search needs
 
--- src/build.rt:53:9
 returns : tie.Need-returns
 returns c = rw (sym (c .before .may-stand .ensures) ∙ not-true _ (c .if1 .taken))
 
--- src/build.rt:55:9
 may-stand-requires-2 : tie.Need-may-stand-requires-2
 may-stand-requires-2 c κs = search needs
 
--- src/build.rt:56:9
 returns-2 : tie.Need-returns-2
 returns-2 c = rw (sym (c .before .before .before .may-stand .ensures) ∙ not-false _ (c .before .before .if1 .left), sym (c .before .may-stand2 .ensures) ∙ not-true _ (c .if2 .taken))
 
--- src/build.rt:59:9
 returns-3 : tie.Need-returns-3
 returns-3 c = rw (sym (c .before .before .before .before .may-stand .ensures) ∙ not-false _ (c .before .before .before .if1 .left), sym (c .before .before .may-stand2 .ensures) ∙ not-false _ (c .before .if2 .left), lt-leb _ _ (c .if3 .taken))
 
--- src/build.rt:61:5
 all-may-stand-requires : tie.Need-all-may-stand-requires
 all-may-stand-requires c κs = search needs
 
--- src/build.rt:49:1
 returns-4 : tie.Need-returns-4
 returns-4 c = rw (sym (c .before .before .before .before .before .may-stand .ensures) ∙ not-false _ (c .before .before .before .before .if1 .left), sym (c .before .before .before .may-stand2 .ensures) ∙ not-false _ (c .before .before .if2 .left), le-leb _ _ (c .before .if3 .left)) (c .all-may-stand .ensures)
 

@@ -1,4 +1,4 @@
-use mathlib.Core.Path.{_≡_, refl, sym, ap, _∙_}
+use mathlib.Core.Path.{_≡_, _∙_}
 use native.Mathlib.Omega.{arith}
 use denote.Ref.{now}
 use lib.ListN.{length}
@@ -6,45 +6,31 @@ use Rattle.wire.proofs.Building.{finishing}
 use borrow.Author.Needs.{needs}
 use Rattle.wire.proofs.build.finish.Statement.{statement}
 use Rattle.wire.proofs.build.finish.Tie as tie
-use Rattle.wire.proofs.build.finish.Reads as reads
-use Rattle.wire.proofs.build.finish.Lts as lts
-use Rattle.text.proofs.put_byte.Reads as put-byte-reads
-use Rattle.text.proofs.put_bytes.Reads as put-bytes-reads
-use Rattle.wire.proofs.build.enclose.Reads as enclose-reads
 
--- src/build.rt:73:25
 add-put-byte : tie.Need-add-put-byte
 add-put-byte c = search needs
 
--- src/build.rt:73:5
 put-byte-requires : tie.Need-put-byte-requires
 put-byte-requires c κs = search needs
 
--- src/build.rt:74:26
 add-put-bytes : tie.Need-add-put-bytes
 add-put-bytes c = search needs
 
--- src/build.rt:74:33
 slice-aggregate-put-bytes : tie.Need-slice-aggregate-put-bytes
 slice-aggregate-put-bytes c = search needs
 
--- src/build.rt:74:5
 put-bytes-requires : tie.Need-put-bytes-requires
 put-bytes-requires c κs = search needs
 
--- src/build.rt:75:29
 add-enclose : tie.Need-add-enclose
 add-enclose c = search needs
 
--- src/build.rt:75:5
 enclose-requires : tie.Need-enclose-requires
 enclose-requires c κs = search needs
 
--- src/build.rt:67:1
 same-length : tie.Need-same-length
 same-length c = search needs
 
--- src/build.rt:67:1
 returns : tie.Need-returns
 returns c =
     let s = c .before .before .before .before .before .before .before .before .before .before .before .before .before .before in

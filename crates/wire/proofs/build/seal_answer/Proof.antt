@@ -1,33 +1,24 @@
-use mathlib.Core.Path.{_≡_, refl, sym, ap, _∙_}
-use mathlib.Core.Bool.{true, false, _&&_}
-use mathlib.Core.List.{List, _∷_, _++_}
-use Prim.Native.Nat.{ℕ, _≤_, _+_, _-_, _<_}
+use mathlib.Core.Path.{_≡_, sym, _∙_}
+use mathlib.Core.Bool.{true}
+use mathlib.Core.List.{_∷_, _++_}
+use Prim.Native.Nat.{_+_, _-_, _<_}
 use native.Mathlib.Omega.{arith}
 use borrow.Author.Tests.{not-true, not-false}
 use denote.Ref.{now}
 use lib.ListN.{length, length-append, length-take, length-drop, take, drop}
-use lib.Seq.{sets, length-take-le}
-use Rattle.wire.specs.Bytes.{every, mayStand}
+use lib.Seq.{length-take-le}
 use Rattle.wire.specs.Frame.{answerOf, enclosed, carriable}
 use Rattle.wire.specs.declared.Kind.the-variants.{Answer}
-use Rattle.wire.specs.declared.Sort.the-variants.{Status}
 use Rattle.wire.proofs.Building.{length-enclosed, sendable-answer, too-short, cannot, can, not-carried, no-status, too-long}
 use borrow.Author.Needs.{needs}
 use Rattle.wire.proofs.build.seal_answer.Statement.{statement}
 use Rattle.wire.proofs.build.seal_answer.Tie as tie
-use Rattle.wire.proofs.build.seal_answer.Reads as reads
-use Rattle.wire.proofs.build.seal_answer.Lts as lts
-use Rattle.wire.proofs.build.can_carry.Reads as can-carry-reads
-use Rattle.wire.proofs.build.finish.Reads as finish-reads
-use Rattle.wire.proofs.suit.all_may_stand.Reads as all-may-stand-reads
 
--- src/build.rt:51:9
 returns : tie.Need-returns
 returns c =
     let a = c .before .before .args in
     sym (too-short Answer (now (a .buf)) (answerOf (a .seq) (a .code) (take (a .n) (drop 4 (now (a .buf)))) (a .t5)) (c .if1 .taken))
 
--- src/build.rt:54:9
 returns-2 : tie.Need-returns-2
 returns-2 c =
     let a = c .before .before .before .args in
@@ -36,31 +27,24 @@ returns-2 c =
     let long : 200 < length content = omega (arith, length-take (a .n) (drop 4 (now (a .buf))), length-drop 4 (now (a .buf)), c .before .if1 .left) in
     sym (cannot Answer (now (a .buf)) m (c .before .if1 .left) (not-carried Answer m (too-long (a .seq) (a .code) content long)))
 
--- src/build.rt:56:15
 add-end : tie.Need-add-end
 add-end c = search needs
 
--- src/build.rt:57:30
 sub-can-carry : tie.Need-sub-can-carry
 sub-can-carry c = search needs
 
--- src/build.rt:57:30
 part-can-carry-start : tie.Need-part-can-carry-start
 part-can-carry-start c = search needs
 
--- src/build.rt:57:30
 part-can-carry-end : tie.Need-part-can-carry-end
 part-can-carry-end c = search needs
 
--- src/build.rt:57:9
 can-carry-requires : tie.Need-can-carry-requires
 can-carry-requires c κs = search needs
 
--- src/build.rt:58:9
 same-length : tie.Need-same-length
 same-length c = search needs
 
--- src/build.rt:58:9
 returns-3 : tie.Need-returns-3
 returns-3 c =
     let a = c .before .before .before .before .before .before .before .args in
@@ -69,34 +53,27 @@ returns-3 c =
     let all : a .n + 4 - 4 ≡ a .n = omega arith in
     sym (cannot Answer (now (a .buf)) m (c .before .before .before .before .before .if1 .left) (not-carried Answer m (rw all at (sym (c .before .can-carry .ensures) ∙ not-true _ (c .if3 .taken)))))
 
--- src/build.rt:60:43
 slice-aggregate-all-may-stand : tie.Need-slice-aggregate-all-may-stand
 slice-aggregate-all-may-stand c = search needs
 
--- src/build.rt:60:9
 all-may-stand-requires : tie.Need-all-may-stand-requires
 all-may-stand-requires c κs = search needs
 
--- src/build.rt:61:9
 same-length-2 : tie.Need-same-length-2
 same-length-2 c = search needs
 
--- src/build.rt:61:9
 returns-4 : tie.Need-returns-4
 returns-4 c =
     let a = c .before .before .before .before .before .before .before .before .before .before .args in
     let m = answerOf (a .seq) (a .code) (take (a .n) (drop 4 (now (a .buf)))) (a .t5) in
     sym (cannot Answer (now (a .buf)) m (c .before .before .before .before .before .before .before .before .if1 .left) (no-status Answer m (sym (c .before .all-may-stand .ensures) ∙ not-true _ (c .if4 .taken))))
 
--- src/build.rt:63:18
 finish-requires : tie.Need-finish-requires
 finish-requires c κs = search needs
 
--- src/build.rt:47:1
 same-length-3 : tie.Need-same-length-3
 same-length-3 c = search needs
 
--- src/build.rt:47:1
 returns-5 : tie.Need-returns-5
 returns-5 c =
     let a = c .before .before .before .before .before .before .before .before .before .before .before .before .before .before .args in

@@ -1,15 +1,12 @@
 use Prim.Native.Nat.{_+_, _-_, _%_, _≤_, _<_}
-use mathlib.Core.Path.{_≡_, refl, sym, _∙_}
+use mathlib.Core.Path.{_≡_, _∙_}
 use native.Mathlib.Omega.{arith}
-use borrow.Author.Needs.{needs}
 use denote.Ref.{now}
-use lib.ListN.{length, drop, getD}
+use lib.ListN.{length, drop}
 use Rattle.wire.specs.Frame.{total}
 use Rattle.wire.proofs.Building.{sum-turn, sum-done}
 use Rattle.wire.proofs.build.sum_of.Statement.{statement}
 use Rattle.wire.proofs.build.sum_of.Tie as tie
-use Rattle.wire.proofs.build.sum_of.Reads as reads
-use Rattle.wire.proofs.build.sum_of.Lts as lts
 
 abbrev Inv-loop : tie.InvT-loop
 Inv-loop part sum₀ i₀ sum i = (i ≤ length part) × (sum < 65536) × ((sum + total (drop i part)) % 65536 ≡ total part % 65536)
@@ -17,39 +14,30 @@ Inv-loop part sum₀ i₀ sum i = (i ≤ length part) × (sum < 65536) × ((sum 
 abbrev μ-loop : tie.MeasureT-loop
 μ-loop part sum₀ i₀ sum i = length part - i
 
--- src/build.rt:86:5
 loop-holds : tie.Need-loop-holds Inv-loop μ-loop
 loop-holds c = (omega arith, omega arith, omega arith)
 
--- src/build.rt:87:17
 cast-sum : tie.Need-cast-sum Inv-loop μ-loop
 cast-sum c = omega arith
 
--- src/build.rt:87:30
 shared-slice-read-sum : tie.Need-shared-slice-read-sum Inv-loop μ-loop
 shared-slice-read-sum c = omega arith
 
--- src/build.rt:87:30
 cast-sum-2 : tie.Need-cast-sum-2 Inv-loop μ-loop
 cast-sum-2 c = omega (arith, c .shared-slice-known .given (c .before .before .loop .i))
 
--- src/build.rt:87:17
 add-sum : tie.Need-add-sum Inv-loop μ-loop
 add-sum c = omega (arith, c .shared-slice-known .given (c .before .before .loop .i))
 
--- src/build.rt:87:15
 cast-sum-3 : tie.Need-cast-sum-3 Inv-loop μ-loop
 cast-sum-3 c = omega arith
 
--- src/build.rt:88:9
 add-i : tie.Need-add-i Inv-loop μ-loop
 add-i c = omega arith
 
--- src/build.rt:86:5
 loop-less : tie.Need-loop-less Inv-loop μ-loop
 loop-less c = omega arith
 
--- src/build.rt:86:5
 loop-again : tie.Need-loop-again Inv-loop μ-loop
 loop-again c =
     let at = c .before .before in (
@@ -58,7 +46,6 @@ loop-again c =
       sum-turn (now (at .before .args .part)) (at .loop .i) (at .loop .sum) (c .before .loop-test .taken) ∙ at .loop .inv .2,
     )
 
--- src/build.rt:81:1
 returns : tie.Need-returns Inv-loop μ-loop
 returns c =
     let at = c .before in

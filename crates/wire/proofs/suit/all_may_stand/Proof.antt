@@ -1,6 +1,5 @@
 use Prim.Native.Nat.{_≤_, _-_}
 use mathlib.Core.Path.{_≡_, refl, sym, _∙_}
-use mathlib.Core.Bool.{true, false}
 use native.Mathlib.Omega.{arith}
 use borrow.Author.Needs.{needs}
 use borrow.Author.Tests.{not-true, not-false}
@@ -10,9 +9,6 @@ use Rattle.wire.specs.Bytes.{mayStand, every}
 use Rattle.wire.proofs.Suits.{every-turn, every-stop, every-done}
 use Rattle.wire.proofs.suit.all_may_stand.Statement.{statement}
 use Rattle.wire.proofs.suit.all_may_stand.Tie as tie
-use Rattle.wire.proofs.suit.all_may_stand.Reads as reads
-use Rattle.wire.proofs.suit.all_may_stand.Lts as lts
-use Rattle.wire.proofs.suit.may_stand.Reads as may-stand-reads
 
 abbrev Inv-loop : tie.InvT-loop
 Inv-loop sort part i₀ i = (i ≤ length part) × (every (mayStand sort) part ≡ every (mayStand sort) (drop i part))
@@ -20,34 +16,27 @@ Inv-loop sort part i₀ i = (i ≤ length part) × (every (mayStand sort) part �
 abbrev μ-loop : tie.MeasureT-loop
 μ-loop sort part i₀ i = length part - i
 
--- src/suit.rt:27:5
 loop-holds : tie.Need-loop-holds Inv-loop μ-loop
 loop-holds c = (omega arith, refl)
 
--- src/suit.rt:28:29
 shared-slice-read-may-stand : tie.Need-shared-slice-read-may-stand Inv-loop μ-loop
 shared-slice-read-may-stand c = omega arith
 
--- src/suit.rt:28:13
 may-stand-requires : tie.Need-may-stand-requires Inv-loop μ-loop
 may-stand-requires c κs = search needs
 
--- src/suit.rt:29:13
 returns : tie.Need-returns Inv-loop μ-loop
 returns c =
     let at = c .before .before .before .before in
     let s = at .before .before in
     sym (at .loop .inv .1 ∙ every-stop (mayStand (s .args .sort)) (now (s .args .part)) (at .loop .i) (c .before .before .before .loop-test .taken) (sym (c .before .may-stand .ensures) ∙ not-true _ (c .if1 .taken)))
 
--- src/suit.rt:31:9
 add-i : tie.Need-add-i Inv-loop μ-loop
 add-i c = omega arith
 
--- src/suit.rt:27:5
 loop-less : tie.Need-loop-less Inv-loop μ-loop
 loop-less c = omega arith
 
--- src/suit.rt:27:5
 loop-again : tie.Need-loop-again Inv-loop μ-loop
 loop-again c =
     let at = c .before .before .before .before in
@@ -56,7 +45,6 @@ loop-again c =
       at .loop .inv .1 ∙ every-turn (mayStand (s .args .sort)) (now (s .args .part)) (at .loop .i) (c .before .before .before .loop-test .taken) (sym (c .before .may-stand .ensures) ∙ not-false _ (c .if1 .left)),
     )
 
--- src/suit.rt:23:1
 returns-2 : tie.Need-returns-2 Inv-loop μ-loop
 returns-2 c =
     let s = c .before .before .before in

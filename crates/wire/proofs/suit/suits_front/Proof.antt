@@ -3,32 +3,22 @@ use Rattle.wire.proofs.Suits.{front-mark, front-data, front-behind}
 use borrow.Author.Needs.{needs}
 use Rattle.wire.proofs.suit.suits_front.Statement.{statement}
 use Rattle.wire.proofs.suit.suits_front.Tie as tie
-use Rattle.wire.proofs.suit.suits_front.Reads as reads
-use Rattle.wire.proofs.suit.suits_front.Lts as lts
-use Rattle.wire.proofs.suit.may_stand.Reads as may-stand-reads
-use Rattle.wire.proofs.suit.suits_behind.Reads as suits-behind-reads
 
--- src/suit.rt:91:9
 may-stand-requires : tie.Need-may-stand-requires
 may-stand-requires c κs = search needs
 
--- src/suit.rt:91:9
 returns : tie.Need-returns
 returns c = c .may-stand .ensures ∙ front-mark (c .before .before .args .kind) (c .before .before .args .n) _ _ (c .before .if1 .taken)
 
--- src/suit.rt:95:9
 may-stand-requires-2 : tie.Need-may-stand-requires-2
 may-stand-requires-2 c κs = search needs
 
--- src/suit.rt:95:9
 returns-2 : tie.Need-returns-2
 returns-2 c = c .may-stand2 .ensures ∙ front-data (c .before .before .before .args .kind) (c .before .before .before .args .n) _ _ (c .before .before .if1 .left) (c .before .if2 .taken)
 
--- src/suit.rt:97:5
 suits-behind-requires : tie.Need-suits-behind-requires
 suits-behind-requires c κs = search needs
 
--- src/suit.rt:87:1
 returns-3 : tie.Need-returns-3
 returns-3 c = c .suits-behind .ensures ∙ front-behind (c .before .before .before .args .kind) (c .before .before .before .args .n) _ _ (c .before .before .if1 .left) (c .before .if2 .left)
 
