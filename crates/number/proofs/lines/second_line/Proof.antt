@@ -1,0 +1,87 @@
+use borrow.Author.Needs.{needs}
+use Rattle.number.proofs.lines.second_line.Statement.{statement}
+use Rattle.number.proofs.lines.second_line.Tie as tie
+use Rattle.number.proofs.lines.second_line.Reads as reads
+use Rattle.number.proofs.lines.second_line.Lts as lts
+use Rattle.number.proofs.find.Reads as find-reads
+use Rattle.number.proofs.lines.behind_tab.Reads as behind-tab-reads
+
+-- src/lines.rt:67:9
+behind-tab-requires : tie.Need-behind-tab-requires
+behind-tab-requires c κs = search needs
+
+-- src/lines.rt:68:19
+enum-known-rest : tie.Need-enum-known-rest
+enum-known-rest c = search needs
+
+-- src/lines.rt:69:16
+enum-told : tie.Need-enum-told
+enum-told c = search needs
+
+-- src/lines.rt:69:9
+slice-aggregate-result : tie.Need-slice-aggregate-result
+slice-aggregate-result c = search needs
+
+-- src/lines.rt:69:9
+returns : tie.Need-returns
+returns c = ?
+
+-- src/lines.rt:71:15
+sub-tab : tie.Need-sub-tab
+sub-tab c = ?
+
+-- src/lines.rt:72:19
+slice-aggregate-find : tie.Need-slice-aggregate-find
+slice-aggregate-find c = ?
+
+-- src/lines.rt:72:9
+find-requires : tie.Need-find-requires
+find-requires c κs = search needs
+
+-- src/lines.rt:74:9
+slice-aggregate-result-2 : tie.Need-slice-aggregate-result-2
+slice-aggregate-result-2 c = search needs
+
+-- src/lines.rt:74:9
+returns-2 : tie.Need-returns-2
+returns-2 c = ?
+
+-- src/lines.rt:76:17
+add-start : tie.Need-add-start
+add-start c = ?
+
+-- src/lines.rt:77:5
+sub-result : tie.Need-sub-result
+sub-result c = ?
+
+-- src/lines.rt:77:5
+part-result-start : tie.Need-part-result-start
+part-result-start c = ?
+
+-- src/lines.rt:77:5
+part-result-end : tie.Need-part-result-end
+part-result-end c = ?
+
+-- src/lines.rt:64:1
+returns-3 : tie.Need-returns-3
+returns-3 c = ?
+
+pub second-line-spec : {M : Type 1} → statement M
+second-line-spec =
+    tie.close
+    (tie.spec
+    behind-tab-requires
+    enum-known-rest
+    enum-told
+    slice-aggregate-result
+    returns
+    sub-tab
+    slice-aggregate-find
+    find-requires
+    slice-aggregate-result-2
+    returns-2
+    add-start
+    sub-result
+    part-result-start
+    part-result-end
+    returns-3)
