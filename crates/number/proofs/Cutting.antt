@@ -47,3 +47,14 @@ begins-first b (x ∷ xs) h = refl
 pub begins-some : (b : ℕ) (xs : List ℕ) → true ≡ begins b xs → 1 ≤ length xs
 begins-some b [] h = absurd (false≢true (sym h))
 begins-some b (x ∷ xs) h = omega arith
+
+-- the sign is cut off
+module _ (s : List ℕ) where
+  pub unsigned-plus : begins 0x2B s ≡ true → take (length s - 1) (drop 1 s) ≡ unsigned s
+  unsigned-plus e = rw e (to-end 1 s)
+
+  pub unsigned-minus : begins 0x2B s ≡ false → begins 0x2D s ≡ true → take (length s - 1) (drop 1 s) ≡ unsigned s
+  unsigned-minus p e = rw (p, e) (to-end 1 s)
+
+  pub unsigned-none : begins 0x2B s ≡ false → begins 0x2D s ≡ false → s ≡ unsigned s
+  unsigned-none p e = rw (p, e)
