@@ -7,7 +7,7 @@ use native.Mathlib.Numerals.{add-one}
 use native.Mathlib.Omega.{arith}
 use lib.Dec.{ltb, eqb}
 use lib.ListN.{length, getD, take, drop, length-drop, drop-of-length-le}
-use lib.Seq.{drop-cons, take-all}
+use lib.Seq.{drop-cons, length-take-le, take-all, take-nil}
 use borrow.Author.Tests.{eq-eqb, ne-eqb}
 use Rattle.number.specs.Parts.{place, has, upTo, past}
 use Rattle.number.specs.Numbers.{begins, unsigned}
@@ -31,9 +31,21 @@ place-within b (x ∷ xs) = go (eqb x b) (place-within b xs)
     go true h = omega arith
     go false h = omega arith
 
+pub cut-length : (b : ℕ) (xs : List ℕ) (at : ℕ) → at ≡ place b xs → at ≡ length (take at xs)
+cut-length b xs at found = sym (length-take-le at xs (omega (arith, place-within b xs)))
+
 -- the part from i to the end
 pub to-end : (i : ℕ) (xs : List ℕ) → take (length xs - i) (drop i xs) ≡ drop i xs
 to-end i xs = take-all (length xs - i) (drop i xs) (omega (arith, length-drop i xs))
+
+-- the part from m on of the first n
+pub drop-take : (m n : ℕ) (xs : List ℕ) → drop m (take n xs) ≡ take (n - m) (drop m xs)
+drop-take zero n xs = let same : n ≡ n - 0 = omega arith in ap (λ k. take k xs) same
+drop-take (suc m) zero xs = let none : 0 ≡ 0 - suc m = omega arith in ap (λ k. take k (drop (suc m) xs)) none
+drop-take (suc m) (suc n) [] = sym (take-nil (suc n - suc m))
+drop-take (suc m) (suc n) (x ∷ xs) =
+    let less : suc n - suc m ≡ n - m = omega arith in
+    drop-take m n xs ∙ ap (λ k. take k (drop m xs)) (sym less)
 
 -- the first byte
 pub begins-none : (b : ℕ) (xs : List ℕ) → length xs ≡ 0 → false ≡ begins b xs

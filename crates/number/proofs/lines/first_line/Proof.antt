@@ -1,3 +1,7 @@
+use mathlib.Core.Path.{_≡_, sym, _∙_}
+use native.Mathlib.Omega.{arith}
+use denote.Ref.{now}
+use Rattle.number.proofs.Tabs.{first-none, rest-starts, tab-length, first-length, first-is}
 use borrow.Author.Needs.{needs}
 use Rattle.number.proofs.lines.first_line.Statement.{statement}
 use Rattle.number.proofs.lines.first_line.Tie as tie
@@ -24,15 +28,15 @@ slice-aggregate-result c = search needs
 
 -- src/lines.rt:57:9
 returns : tie.Need-returns
-returns c = ?
+returns c = first-none (now (c .before .before .before .before .before .args .s)) (sym (c .before .before .before .behind-tab .ensures) ∙ c .before .enum-told .given .1)
 
 -- src/lines.rt:59:15
 sub-tab : tie.Need-sub-tab
-sub-tab c = ?
+sub-tab c = rest-starts (now (c .before .before .before .before .before .args .s)) _ (sym (c .before .before .before .behind-tab .ensures) ∙ c .before .rest .given .1)
 
 -- src/lines.rt:60:20
 slice-aggregate-find : tie.Need-slice-aggregate-find
-slice-aggregate-find c = ?
+slice-aggregate-find c = tab-length (now (c .before .before .before .before .before .before .args .s)) _ (sym (c .before .before .before .before .behind-tab .ensures) ∙ c .before .before .rest .given .1)
 
 -- src/lines.rt:60:9
 find-requires : tie.Need-find-requires
@@ -40,11 +44,11 @@ find-requires c κs = search needs
 
 -- src/lines.rt:61:5
 slice-aggregate-result-2 : tie.Need-slice-aggregate-result-2
-slice-aggregate-result-2 c = ?
+slice-aggregate-result-2 c = first-length (now (c .before .before .before .before .before .before .before .before .args .s)) _ (sym (c .before .before .before .before .before .before .behind-tab .ensures) ∙ c .before .before .before .before .rest .given .1) (c .before .find .result) (c .before .find .ensures)
 
 -- src/lines.rt:52:1
 returns-2 : tie.Need-returns-2
-returns-2 c = ?
+returns-2 c = first-is (now (c .before .before .before .before .before .before .before .before .args .s)) _ (sym (c .before .before .before .before .before .before .behind-tab .ensures) ∙ c .before .before .before .before .rest .given .1) (c .before .find .result) (c .before .find .ensures)
 
 pub first-line-spec : {M : Type 1} → statement M
 first-line-spec =

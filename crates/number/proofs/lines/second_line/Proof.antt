@@ -1,3 +1,7 @@
+use mathlib.Core.Path.{_≡_, sym, _∙_}
+use native.Mathlib.Omega.{arith}
+use denote.Ref.{now}
+use Rattle.number.proofs.Tabs.{second-none, rest-starts, rest-within, tab-length, feed-within, second-empty, second-is}
 use borrow.Author.Needs.{needs}
 use Rattle.number.proofs.lines.second_line.Statement.{statement}
 use Rattle.number.proofs.lines.second_line.Tie as tie
@@ -24,15 +28,15 @@ slice-aggregate-result c = search needs
 
 -- src/lines.rt:69:9
 returns : tie.Need-returns
-returns c = ?
+returns c = second-none (now (c .before .before .before .before .before .args .s)) (sym (c .before .before .before .behind-tab .ensures) ∙ c .before .enum-told .given .1)
 
 -- src/lines.rt:71:15
 sub-tab : tie.Need-sub-tab
-sub-tab c = ?
+sub-tab c = rest-starts (now (c .before .before .before .before .before .args .s)) _ (sym (c .before .before .before .behind-tab .ensures) ∙ c .before .rest .given .1)
 
 -- src/lines.rt:72:19
 slice-aggregate-find : tie.Need-slice-aggregate-find
-slice-aggregate-find c = ?
+slice-aggregate-find c = tab-length (now (c .before .before .before .before .before .before .args .s)) _ (sym (c .before .before .before .before .behind-tab .ensures) ∙ c .before .before .rest .given .1)
 
 -- src/lines.rt:72:9
 find-requires : tie.Need-find-requires
@@ -44,27 +48,27 @@ slice-aggregate-result-2 c = search needs
 
 -- src/lines.rt:74:9
 returns-2 : tie.Need-returns-2
-returns-2 c = ?
+returns-2 c = second-empty (now (c .before .before .before .before .before .before .before .before .before .args .s)) _ (sym (c .before .before .before .before .before .before .before .behind-tab .ensures) ∙ c .before .before .before .before .before .rest .given .1) (c .before .before .find .result) (c .before .before .find .ensures) (c .before .if1 .taken)
 
 -- src/lines.rt:76:17
 add-start : tie.Need-add-start
-add-start c = ?
+add-start c = omega (arith, feed-within (now (c .before .before .before .before .before .before .before .before .args .s)) _ (sym (c .before .before .before .before .before .before .behind-tab .ensures) ∙ c .before .before .before .before .rest .given .1) (c .before .find .result) (c .before .find .ensures))
 
 -- src/lines.rt:77:5
 sub-result : tie.Need-sub-result
-sub-result c = ?
+sub-result c = omega (arith, feed-within (now (c .before .before .before .before .before .before .before .before .args .s)) _ (sym (c .before .before .before .before .before .before .behind-tab .ensures) ∙ c .before .before .before .before .rest .given .1) (c .before .find .result) (c .before .find .ensures))
 
 -- src/lines.rt:77:5
 part-result-start : tie.Need-part-result-start
-part-result-start c = ?
+part-result-start c = omega (arith, feed-within (now (c .before .before .before .before .before .before .before .before .args .s)) _ (sym (c .before .before .before .before .before .before .behind-tab .ensures) ∙ c .before .before .before .before .rest .given .1) (c .before .find .result) (c .before .find .ensures))
 
 -- src/lines.rt:77:5
 part-result-end : tie.Need-part-result-end
-part-result-end c = ?
+part-result-end c = omega (arith, rest-within (now (c .before .before .before .before .before .before .before .before .args .s)) _ (sym (c .before .before .before .before .before .before .behind-tab .ensures) ∙ c .before .before .before .before .rest .given .1))
 
 -- src/lines.rt:64:1
 returns-3 : tie.Need-returns-3
-returns-3 c = ?
+returns-3 c = second-is (now (c .before .before .before .before .before .before .before .before .before .args .s)) _ (sym (c .before .before .before .before .before .before .before .behind-tab .ensures) ∙ c .before .before .before .before .before .rest .given .1) (c .before .before .find .result) (c .before .before .find .ensures)
 
 pub second-line-spec : {M : Type 1} → statement M
 second-line-spec =
