@@ -1,15 +1,15 @@
 -- Laws of cutting a list at the first byte of a kind.
 use mathlib.Core.Path.{_≡_, refl, sym, ap, _∙_}
-use mathlib.Core.Bool.{Bool, true, false, cond, _||_, false≢true}
+use mathlib.Core.Bool.{Bool, true, false, cond, false≢true}
 use mathlib.Core.List.{List, [], _∷_}
 use Prim.Native.Nat.{ℕ, zero, suc, _+_, _-_, _≤_, _<_}
 use native.Mathlib.Numerals.{add-one}
 use native.Mathlib.Omega.{arith}
-use lib.Dec.{ltb, eqb}
+use lib.Dec.{eqb}
 use lib.ListN.{length, getD, take, drop, length-drop, drop-of-length-le}
 use lib.Seq.{drop-cons, length-take-le, take-all, take-nil}
 use borrow.Author.Tests.{eq-eqb, ne-eqb}
-use Rattle.number.specs.Parts.{place, has, upTo, past}
+use Rattle.number.specs.Parts.{place}
 use Rattle.number.specs.Numbers.{begins, unsigned}
 
 -- what is still to be passed from i on

@@ -12,7 +12,7 @@ use Rattle.wire.specs.Bytes.{every}
 use Rattle.wire.proofs.Suits.{both}
 use Rattle.number.specs.Parts.{place, has, upTo}
 use Rattle.number.specs.Texts.{tab, lineFeed, isText, areTexts, beginsWithTexts, restOf, firstLine, secondLine}
-use Rattle.number.proofs.Cutting.{place-within, cut-length, drop-take}
+use Rattle.number.proofs.Cutting.{place-within, drop-take}
 use Rattle.number.specs.declared.Found.{Found}
 use Rattle.number.specs.declared.Found.the-variants.{At, NotThere}
 

@@ -1,52 +1,37 @@
-use mathlib.Core.Path.{_≡_, sym, _∙_}
-use native.Mathlib.Omega.{arith}
+use mathlib.Core.Path.{sym, _∙_}
 use denote.Ref.{now}
 use Rattle.number.proofs.Tabs.{first-none, rest-starts, tab-length, first-length, first-is}
 use borrow.Author.Needs.{needs}
 use Rattle.number.proofs.lines.first_line.Statement.{statement}
 use Rattle.number.proofs.lines.first_line.Tie as tie
-use Rattle.number.proofs.lines.first_line.Reads as reads
-use Rattle.number.proofs.lines.first_line.Lts as lts
-use Rattle.number.proofs.find.Reads as find-reads
-use Rattle.number.proofs.lines.behind_tab.Reads as behind-tab-reads
 
--- src/lines.rt:55:9
 behind-tab-requires : tie.Need-behind-tab-requires
 behind-tab-requires c κs = search needs
 
--- src/lines.rt:56:19
 enum-known-rest : tie.Need-enum-known-rest
 enum-known-rest c = search needs
 
--- src/lines.rt:57:16
 enum-told : tie.Need-enum-told
 enum-told c = search needs
 
--- src/lines.rt:57:9
 slice-aggregate-result : tie.Need-slice-aggregate-result
 slice-aggregate-result c = search needs
 
--- src/lines.rt:57:9
 returns : tie.Need-returns
 returns c = first-none (now (c .before .before .before .before .before .args .s)) (sym (c .before .before .before .behind-tab .ensures) ∙ c .before .enum-told .given .1)
 
--- src/lines.rt:59:15
 sub-tab : tie.Need-sub-tab
 sub-tab c = rest-starts (now (c .before .before .before .before .before .args .s)) _ (sym (c .before .before .before .behind-tab .ensures) ∙ c .before .rest .given .1)
 
--- src/lines.rt:60:20
 slice-aggregate-find : tie.Need-slice-aggregate-find
 slice-aggregate-find c = tab-length (now (c .before .before .before .before .before .before .args .s)) _ (sym (c .before .before .before .before .behind-tab .ensures) ∙ c .before .before .rest .given .1)
 
--- src/lines.rt:60:9
 find-requires : tie.Need-find-requires
 find-requires c κs = search needs
 
--- src/lines.rt:61:5
 slice-aggregate-result-2 : tie.Need-slice-aggregate-result-2
 slice-aggregate-result-2 c = first-length (now (c .before .before .before .before .before .before .before .before .args .s)) _ (sym (c .before .before .before .before .before .before .behind-tab .ensures) ∙ c .before .before .before .before .rest .given .1) (c .before .find .result) (c .before .find .ensures)
 
--- src/lines.rt:52:1
 returns-2 : tie.Need-returns-2
 returns-2 c = first-is (now (c .before .before .before .before .before .before .before .before .args .s)) _ (sym (c .before .before .before .before .before .before .behind-tab .ensures) ∙ c .before .before .before .before .rest .given .1) (c .before .find .result) (c .before .find .ensures)
 

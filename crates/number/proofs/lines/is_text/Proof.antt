@@ -1,4 +1,4 @@
-use Prim.Native.Nat.{_+_, _-_, _≤_}
+use Prim.Native.Nat.{_-_, _≤_}
 use mathlib.Core.Path.{_≡_, sym, _∙_}
 use native.Mathlib.Omega.{arith}
 use denote.Ref.{now}
@@ -11,8 +11,6 @@ use Rattle.number.specs.Texts.{isText}
 use Rattle.number.proofs.Tabs.{text-long, text-short}
 use Rattle.number.proofs.lines.is_text.Statement.{statement}
 use Rattle.number.proofs.lines.is_text.Tie as tie
-use Rattle.number.proofs.lines.is_text.Reads as reads
-use Rattle.number.proofs.lines.is_text.Lts as lts
 
 abbrev Inv-loop : tie.InvT-loop
 Inv-loop s i₀ i = (i ≤ length s) × (isText s ≡ every (leb 0x20) (drop i s))
@@ -20,33 +18,26 @@ Inv-loop s i₀ i = (i ≤ length s) × (isText s ≡ every (leb 0x20) (drop i s
 abbrev μ-loop : tie.MeasureT-loop
 μ-loop s i₀ i = length s - i
 
--- src/lines.rt:12:9
 returns : tie.Need-returns Inv-loop μ-loop
 returns c = text-long (now (c .before .args .s)) (c .if1 .taken)
 
--- src/lines.rt:15:5
 loop-holds : tie.Need-loop-holds Inv-loop μ-loop
 loop-holds c = (omega arith, text-short (now (c .before .args .s)) (c .if1 .left))
 
--- src/lines.rt:16:12
 shared-slice-read-if2 : tie.Need-shared-slice-read-if2 Inv-loop μ-loop
 shared-slice-read-if2 c = omega arith
 
--- src/lines.rt:17:13
 returns-2 : tie.Need-returns-2 Inv-loop μ-loop
 returns-2 c =
     let at = c .before .before .before in
     sym (at .loop .inv .1 ∙ every-stop (leb 0x20) (now (c .before .before .before .before .before .args .s)) (at .loop .i) (c .before .before .loop-test .taken) (lt-leb _ _ (c .if2 .taken)))
 
--- src/lines.rt:19:9
 add-i : tie.Need-add-i Inv-loop μ-loop
 add-i c = omega arith
 
--- src/lines.rt:15:5
 loop-less : tie.Need-loop-less Inv-loop μ-loop
 loop-less c = omega arith
 
--- src/lines.rt:15:5
 loop-again : tie.Need-loop-again Inv-loop μ-loop
 loop-again c =
     let at = c .before .before .before in (
@@ -54,7 +45,6 @@ loop-again c =
       at .loop .inv .1 ∙ every-turn (leb 0x20) (now (c .before .before .before .before .before .args .s)) (at .loop .i) (c .before .before .loop-test .taken) (le-leb _ _ (c .if2 .left)),
     )
 
--- src/lines.rt:8:1
 returns-3 : tie.Need-returns-3 Inv-loop μ-loop
 returns-3 c =
     let at = c .before in
