@@ -1,0 +1,29 @@
+-- Document 01, "Commands (decimal)": "Once read, a command is one of fourteen kinds, each with its own fields".
+use Prim.Native.Nat.{ℕ}
+use mathlib.Core.Bool.{cond}
+use mathlib.Core.List.{List}
+use lib.Dec.{eqb}
+use Rattle.command.specs.Plain.{bareOf, textOf, openOf, subtotalOf, sumsOf, closingOf}
+use Rattle.command.specs.Money.{sellOf, payOf, drawerOf}
+use Rattle.command.specs.declared.Command.the-variants.{OpenText, CloseText, Close, Cancel, Status, Rates}
+use Rattle.command.specs.declared.Parsed.{Parsed}
+use Rattle.command.specs.declared.Parsed.the-variants.{Unknown}
+
+-- the code, then the data; an unknown command is 2 whatever its data
+abbrev pub parsedOf : ℕ → List ℕ → Parsed
+parsedOf code s =
+    cond (eqb code 38) (bareOf OpenText s)
+    (cond (eqb code 39) (bareOf CloseText s)
+    (cond (eqb code 42) (textOf s)
+    (cond (eqb code 48) (openOf s)
+    (cond (eqb code 49) (sellOf s)
+    (cond (eqb code 51) (subtotalOf s)
+    (cond (eqb code 53) (payOf s)
+    (cond (eqb code 56) (bareOf Close s)
+    (cond (eqb code 60) (bareOf Cancel s)
+    (cond (eqb code 65) (sumsOf s)
+    (cond (eqb code 69) (closingOf s)
+    (cond (eqb code 70) (drawerOf s)
+    (cond (eqb code 74) (bareOf Status s)
+    (cond (eqb code 97) (bareOf Rates s)
+    Unknown)))))))))))))

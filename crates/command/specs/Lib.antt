@@ -1,0 +1,4 @@
+pub mod Fields
+pub mod Plain
+pub mod Money
+pub mod Commands

@@ -1,0 +1,39 @@
+-- Document 01, commands 49, 53 and 42: the texts before a Tab.
+use Prim.Native.Nat.{ℕ, _+_}
+use mathlib.Core.Bool.{Bool, cond, _&&_}
+use mathlib.Core.List.{List, []}
+use lib.Dec.{leb}
+use lib.ListN.{length}
+use Rattle.wire.specs.Bytes.{every}
+use Rattle.number.specs.Parts.{place, has, upTo, past}
+use Rattle.number.specs.declared.Found.{Found}
+use Rattle.number.specs.declared.Found.the-variants.{At, NotThere}
+
+-- "Texts up to 42 bytes, each byte 20h up (002)"
+abbrev pub isText : List ℕ → Bool
+isText s = leb (length s) 42 && every (leb 0x20) s
+
+abbrev pub tab : ℕ
+tab = 0x09
+
+abbrev pub lineFeed : ℕ
+lineFeed = 0x0A
+
+-- "[L1][LF L2]" of what stands before the Tab. A second LF would stand in L2, where no byte is below 20h.
+abbrev pub areTexts : List ℕ → Bool
+areTexts s = isText (upTo lineFeed s) && isText (past lineFeed s)
+
+-- "[L1][LF L2]Tab", with any bytes behind it
+abbrev pub beginsWithTexts : List ℕ → Bool
+beginsWithTexts s = has tab s && areTexts (upTo tab s)
+
+-- where the rest begins; data of another form is syntax, reply number 1
+abbrev pub restOf : List ℕ → Found
+restOf s = cond (beginsWithTexts s) (At (place tab s + 1)) NotThere
+
+-- L1 and L2, each of no bytes where it is left out
+abbrev pub firstLine : List ℕ → List ℕ
+firstLine s = cond (beginsWithTexts s) (upTo lineFeed (upTo tab s)) []
+
+abbrev pub secondLine : List ℕ → List ℕ
+secondLine s = cond (beginsWithTexts s) (past lineFeed (upTo tab s)) []

@@ -1,0 +1,78 @@
+// The texts before a Tab: L1 and L2 are handed on as parts of the lent data.
+use crate::Found;
+use crate::find;
+ghost use mathlib.Core.Path.{_≡_};
+ghost use Rattle.number.specs.Texts.{isText, areTexts, restOf, firstLine, secondLine};
+
+// Up to 42 bytes, each 20h up.
+pub fn is_text(s: &[u8]) -> bool
+    ensures { λ r. ⌜ r ≡ isText (now (s .entry)) ⌝ }
+{
+    if 42 < s.len() {
+        return false;
+    }
+    let mut i = 0;
+    while i < s.len() {
+        if s[i] < 0x20 {
+            return false;
+        }
+        i += 1;
+    }
+    true
+}
+
+// L1, or L1 LF L2.
+fn are_texts(s: &[u8]) -> bool
+    ensures { λ r. ⌜ r ≡ areTexts (now (s .entry)) ⌝ }
+{
+    let at = find(s, 0x0A);
+    if !is_text(&s[..at]) {
+        return false;
+    }
+    if at == s.len() {
+        return true;
+    }
+    let next = at + 1;
+    is_text(&s[next..])
+}
+
+pub fn behind_tab(s: &[u8]) -> Found
+    ensures { λ r. ⌜ r ≡ restOf (now (s .entry)) ⌝ }
+{
+    let at = find(s, 0x09);
+    if at == s.len() {
+        return Found::NotThere;
+    }
+    if !are_texts(&s[..at]) {
+        return Found::NotThere;
+    }
+    Found::At(at + 1)
+}
+
+pub fn first_line(s: &[u8]) -> &[u8]
+    ensures { λ r. ⌜ now r ≡ firstLine (now (s .entry)) ⌝ }
+{
+    let rest = behind_tab(s);
+    let Found::At(next) = rest else {
+        return &s[..0];
+    };
+    let tab = next - 1;
+    let end = find(&s[..tab], 0x0A);
+    &s[..end]
+}
+
+pub fn second_line(s: &[u8]) -> &[u8]
+    ensures { λ r. ⌜ now r ≡ secondLine (now (s .entry)) ⌝ }
+{
+    let rest = behind_tab(s);
+    let Found::At(next) = rest else {
+        return &s[..0];
+    };
+    let tab = next - 1;
+    let at = find(&s[..tab], 0x0A);
+    if at == tab {
+        return &s[..0];
+    }
+    let start = at + 1;
+    &s[start..tab]
+}
