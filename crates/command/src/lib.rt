@@ -28,7 +28,7 @@ pub enum Adjusted {
 
 // A line of a receipt: price in stotinki, quantity in thousandths, the group from 0.
 pub struct Sale {
-    pub group: u8,
+    pub group: u64,
     pub minus: bool,
     pub price: u64,
     pub quantity: u64,
@@ -65,14 +65,25 @@ pub enum Command {
     OpenText,
     CloseText,
     PrintText,
-    Open { op: u64, password: Password, till: u64 },
+    Open {
+        op: u64,
+        password: Password,
+        till: u64,
+    },
     Sell(Sale),
-    Subtotal { print: bool, show: bool },
+    Subtotal {
+        print: bool,
+        show: bool,
+    },
     Pay(Payment),
     Close,
     Cancel,
-    Sums { taxes: bool },
-    Closing { clears: bool },
+    Sums {
+        taxes: bool,
+    },
+    Closing {
+        clears: bool,
+    },
     Drawer(Service),
     Status,
     Rates,
@@ -92,7 +103,7 @@ pub fn parse(code: u8, bytes: &[u8]) -> Parsed
         38 => plain::bare(Command::OpenText, bytes),
         39 => plain::bare(Command::CloseText, bytes),
         42 => plain::text(bytes),
-        48 => plain::open(bytes),
+        48 => plain::open_receipt(bytes),
         49 => money::sell(bytes),
         51 => plain::subtotal(bytes),
         53 => money::pay(bytes),

@@ -24,7 +24,7 @@ pub fn text(s: &[u8]) -> Parsed
     Parsed::Syntax
 }
 
-pub fn open(s: &[u8]) -> Parsed
+pub fn open_receipt(s: &[u8]) -> Parsed
     ensures { λ r. ⌜ r ≡ openOf (now (s .entry)) ⌝ }
 {
     let first = number::find(s, b',');
