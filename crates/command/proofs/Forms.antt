@@ -1,0 +1,67 @@
+-- Laws of the forms, as the code's branches ask them.
+use mathlib.Core.Path.{_≡_, refl, sym, ap, _∙_}
+use mathlib.Core.Bool.{Bool, true, false, cond, _&&_, _||_}
+use mathlib.Core.List.{List, [], _∷_}
+use Prim.Native.Nat.{ℕ, zero, suc, _+_, _-_, _≤_, _<_}
+use native.Mathlib.Omega.{arith}
+use lib.Dec.{leb, ltb, eqb}
+use lib.ListN.{length, getD, take, drop}
+use lib.Seq.{take-all}
+use borrow.Author.Tests.{lt-ltb, le-ltb, ltb-false}
+use Rattle.number.specs.Parts.{place, has, upTo, past}
+use Rattle.number.proofs.Cutting.{place-within, to-end}
+use Rattle.command.specs.Plain.{sumsOf, closingOf}
+use Rattle.command.specs.declared.Parsed.{Parsed}
+use Rattle.command.specs.declared.Parsed.the-variants.{Read, Syntax}
+
+-- a list of no byte, and of one
+pub none : (s : List ℕ) → length s ≡ 0 → s ≡ []
+none [] e = refl
+none (x ∷ s) e = absurd (omega arith)
+
+pub one : (s : List ℕ) → length s ≡ 1 → s ≡ getD s 0 0 ∷ []
+one [] e = absurd (omega arith)
+one (x ∷ []) e = refl
+one (x ∷ y ∷ s) e = absurd (omega arith)
+
+pub some : (s : List ℕ) → (length s ≡ 0 → ⊥) → s ≡ getD s 0 0 ∷ drop 1 s
+some [] e = absurd (e refl)
+some (x ∷ s) e = refl
+
+pub sums-long : (s : List ℕ) → (length s ≡ 0 → ⊥) → (length s ≡ 1 → ⊥) → Syntax ≡ sumsOf s
+sums-long [] e f = absurd (e refl)
+sums-long (x ∷ []) e f = absurd (f refl)
+sums-long (x ∷ y ∷ s) e f = refl
+
+pub closing-long : (s : List ℕ) → (length s ≡ 1 → ⊥) → Syntax ≡ closingOf s
+closing-long [] f = refl
+closing-long (x ∷ []) f = absurd (f refl)
+closing-long (x ∷ y ∷ s) f = refl
+
+-- the first b found, as the code finds it
+module _ (b : ℕ) (s : List ℕ) (at : ℕ) (e : at ≡ place b s) where
+  pub found : at < length s → has b s ≡ true
+  found h = ap (λ n. ltb n (length s)) (sym e) ∙ lt-ltb at (length s) h
+
+  pub missed : length s ≤ at → has b s ≡ false
+  missed h = ap (λ n. ltb n (length s)) (sym e) ∙ le-ltb at (length s) h
+
+  pub found-ne : (at ≡ length s → ⊥) → has b s ≡ true
+  found-ne h = found (omega (arith, place-within b s))
+
+  pub missed-eq : at ≡ length s → has b s ≡ false
+  missed-eq h = missed (omega arith)
+
+  pub at-most : at ≤ length s
+  at-most = omega (arith, place-within b s)
+
+  -- the part before it and the part behind it, as they are cut
+  pub front : take at s ≡ upTo b s
+  front = ap (λ n. take n s) e
+
+  pub behind : take (length s - (at + 1)) (drop (at + 1) s) ≡ past b s
+  behind = to-end (at + 1) s ∙ ap (λ n. drop (n + 1) s) e
+
+  -- with none, all of it stands before
+  pub all : has b s ≡ false → upTo b s ≡ s
+  all h = take-all (place b s) s (ltb-false (place b s) (length s) h)
