@@ -22,16 +22,18 @@ are-texts-requires c κs = search needs
 
 returns-2 : tie.Need-returns-2
 returns-2 c =
-    let s = now (c .before .before .before .before .before .before .args .s) in
-    no-texts s (c .before .before .before .before .find .result) (c .before .before .before .before .find .ensures) (omega (arith, place-within 0x09 s)) (sym (c .before .are-texts .ensures) ∙ not-true _ (c .if2 .taken))
+    let at = c .before .before .before .before in
+    let s = now (at .before .before .args .s) in
+    no-texts s (at .find .result) (at .find .ensures) (omega (arith, place-within 0x09 s)) (sym (c .before .are-texts .ensures) ∙ not-true _ (c .if2 .taken))
 
 add-t3 : tie.Need-add-t3
 add-t3 c = omega (arith, place-within 0x09 (now (c .before .before .before .before .before .before .args .s)))
 
 returns-3 : tie.Need-returns-3
 returns-3 c =
-    let s = now (c .before .before .before .before .before .before .args .s) in
-    rest-at s (c .before .before .before .before .find .result) (c .before .before .before .before .find .ensures) (omega (arith, place-within 0x09 s)) (sym (c .before .are-texts .ensures) ∙ not-false _ (c .if2 .left))
+    let at = c .before .before .before .before in
+    let s = now (at .before .before .args .s) in
+    rest-at s (at .find .result) (at .find .ensures) (omega (arith, place-within 0x09 s)) (sym (c .before .are-texts .ensures) ∙ not-false _ (c .if2 .left))
 
 pub behind-tab-spec : {M : Type 1} → statement M
 behind-tab-spec =

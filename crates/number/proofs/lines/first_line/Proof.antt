@@ -21,19 +21,29 @@ returns : tie.Need-returns
 returns c = first-none (now (c .before .before .before .before .before .args .s)) (sym (c .before .before .before .behind-tab .ensures) ∙ c .before .enum-told .given .1)
 
 sub-tab : tie.Need-sub-tab
-sub-tab c = rest-starts (now (c .before .before .before .before .before .args .s)) _ (sym (c .before .before .before .behind-tab .ensures) ∙ c .before .rest .given .1)
+sub-tab c =
+    let r = c .before in
+    rest-starts (now (r .before .before .before .before .args .s)) _ (sym (r .before .before .behind-tab .ensures) ∙ r .rest .given .1)
 
 slice-aggregate-find : tie.Need-slice-aggregate-find
-slice-aggregate-find c = tab-length (now (c .before .before .before .before .before .before .args .s)) _ (sym (c .before .before .before .before .behind-tab .ensures) ∙ c .before .before .rest .given .1)
+slice-aggregate-find c =
+    let r = c .before .before in
+    tab-length (now (r .before .before .before .before .args .s)) _ (sym (r .before .before .behind-tab .ensures) ∙ r .rest .given .1)
 
 find-requires : tie.Need-find-requires
 find-requires c κs = search needs
 
 slice-aggregate-result-2 : tie.Need-slice-aggregate-result-2
-slice-aggregate-result-2 c = first-length (now (c .before .before .before .before .before .before .before .before .args .s)) _ (sym (c .before .before .before .before .before .before .behind-tab .ensures) ∙ c .before .before .before .before .rest .given .1) (c .before .find .result) (c .before .find .ensures)
+slice-aggregate-result-2 c =
+    let at = c .before in
+    let r = at .before .before .before in
+    first-length (now (r .before .before .before .before .args .s)) _ (sym (r .before .before .behind-tab .ensures) ∙ r .rest .given .1) (at .find .result) (at .find .ensures)
 
 returns-2 : tie.Need-returns-2
-returns-2 c = first-is (now (c .before .before .before .before .before .before .before .before .args .s)) _ (sym (c .before .before .before .before .before .before .behind-tab .ensures) ∙ c .before .before .before .before .rest .given .1) (c .before .find .result) (c .before .find .ensures)
+returns-2 c =
+    let at = c .before in
+    let r = at .before .before .before in
+    first-is (now (r .before .before .before .before .args .s)) _ (sym (r .before .before .behind-tab .ensures) ∙ r .rest .given .1) (at .find .result) (at .find .ensures)
 
 pub first-line-spec : {M : Type 1} → statement M
 first-line-spec =

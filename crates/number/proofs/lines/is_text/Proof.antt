@@ -30,7 +30,7 @@ shared-slice-read-if2 c = omega arith
 returns-2 : tie.Need-returns-2 Inv-loop μ-loop
 returns-2 c =
     let at = c .before .before .before in
-    sym (at .loop .inv .1 ∙ every-stop (leb 0x20) (now (c .before .before .before .before .before .args .s)) (at .loop .i) (c .before .before .loop-test .taken) (lt-leb _ _ (c .if2 .taken)))
+    sym (at .loop .inv .1 ∙ every-stop (leb 0x20) (now (at .before .before .args .s)) (at .loop .i) (c .before .before .loop-test .taken) (lt-leb _ _ (c .if2 .taken)))
 
 add-i : tie.Need-add-i Inv-loop μ-loop
 add-i c = omega arith
@@ -42,13 +42,13 @@ loop-again : tie.Need-loop-again Inv-loop μ-loop
 loop-again c =
     let at = c .before .before .before in (
       omega arith,
-      at .loop .inv .1 ∙ every-turn (leb 0x20) (now (c .before .before .before .before .before .args .s)) (at .loop .i) (c .before .before .loop-test .taken) (le-leb _ _ (c .if2 .left)),
+      at .loop .inv .1 ∙ every-turn (leb 0x20) (now (at .before .before .args .s)) (at .loop .i) (c .before .before .loop-test .taken) (le-leb _ _ (c .if2 .left)),
     )
 
 returns-3 : tie.Need-returns-3 Inv-loop μ-loop
 returns-3 c =
     let at = c .before in
-    sym (at .loop .inv .1 ∙ every-done (leb 0x20) (now (c .before .before .before .args .s)) (at .loop .i) (c .loop-test .left))
+    sym (at .loop .inv .1 ∙ every-done (leb 0x20) (now (at .before .before .args .s)) (at .loop .i) (c .loop-test .left))
 
 pub is-text-spec : {M : Type 1} → statement M
 is-text-spec =

@@ -22,10 +22,14 @@ returns : tie.Need-returns
 returns c = second-none (now (c .before .before .before .before .before .args .s)) (sym (c .before .before .before .behind-tab .ensures) ∙ c .before .enum-told .given .1)
 
 sub-tab : tie.Need-sub-tab
-sub-tab c = rest-starts (now (c .before .before .before .before .before .args .s)) _ (sym (c .before .before .before .behind-tab .ensures) ∙ c .before .rest .given .1)
+sub-tab c =
+    let r = c .before in
+    rest-starts (now (r .before .before .before .before .args .s)) _ (sym (r .before .before .behind-tab .ensures) ∙ r .rest .given .1)
 
 slice-aggregate-find : tie.Need-slice-aggregate-find
-slice-aggregate-find c = tab-length (now (c .before .before .before .before .before .before .args .s)) _ (sym (c .before .before .before .before .behind-tab .ensures) ∙ c .before .before .rest .given .1)
+slice-aggregate-find c =
+    let r = c .before .before in
+    tab-length (now (r .before .before .before .before .args .s)) _ (sym (r .before .before .behind-tab .ensures) ∙ r .rest .given .1)
 
 find-requires : tie.Need-find-requires
 find-requires c κs = search needs
@@ -34,22 +38,39 @@ slice-aggregate-result-2 : tie.Need-slice-aggregate-result-2
 slice-aggregate-result-2 c = search needs
 
 returns-2 : tie.Need-returns-2
-returns-2 c = second-empty (now (c .before .before .before .before .before .before .before .before .before .args .s)) _ (sym (c .before .before .before .before .before .before .before .behind-tab .ensures) ∙ c .before .before .before .before .before .rest .given .1) (c .before .before .find .result) (c .before .before .find .ensures) (c .before .if1 .taken)
+returns-2 c =
+    let at = c .before .before in
+    let r = at .before .before .before in
+    second-empty (now (r .before .before .before .before .args .s)) _ (sym (r .before .before .behind-tab .ensures) ∙ r .rest .given .1) (at .find .result) (at .find .ensures) (c .before .if1 .taken)
 
 add-start : tie.Need-add-start
-add-start c = omega (arith, feed-within (now (c .before .before .before .before .before .before .before .before .args .s)) _ (sym (c .before .before .before .before .before .before .behind-tab .ensures) ∙ c .before .before .before .before .rest .given .1) (c .before .find .result) (c .before .find .ensures))
+add-start c =
+    let at = c .before in
+    let r = at .before .before .before in
+    omega (arith, feed-within (now (r .before .before .before .before .args .s)) _ (sym (r .before .before .behind-tab .ensures) ∙ r .rest .given .1) (at .find .result) (at .find .ensures))
 
 sub-result : tie.Need-sub-result
-sub-result c = omega (arith, feed-within (now (c .before .before .before .before .before .before .before .before .args .s)) _ (sym (c .before .before .before .before .before .before .behind-tab .ensures) ∙ c .before .before .before .before .rest .given .1) (c .before .find .result) (c .before .find .ensures))
+sub-result c =
+    let at = c .before in
+    let r = at .before .before .before in
+    omega (arith, feed-within (now (r .before .before .before .before .args .s)) _ (sym (r .before .before .behind-tab .ensures) ∙ r .rest .given .1) (at .find .result) (at .find .ensures))
 
 part-result-start : tie.Need-part-result-start
-part-result-start c = omega (arith, feed-within (now (c .before .before .before .before .before .before .before .before .args .s)) _ (sym (c .before .before .before .before .before .before .behind-tab .ensures) ∙ c .before .before .before .before .rest .given .1) (c .before .find .result) (c .before .find .ensures))
+part-result-start c =
+    let at = c .before in
+    let r = at .before .before .before in
+    omega (arith, feed-within (now (r .before .before .before .before .args .s)) _ (sym (r .before .before .behind-tab .ensures) ∙ r .rest .given .1) (at .find .result) (at .find .ensures))
 
 part-result-end : tie.Need-part-result-end
-part-result-end c = omega (arith, rest-within (now (c .before .before .before .before .before .before .before .before .args .s)) _ (sym (c .before .before .before .before .before .before .behind-tab .ensures) ∙ c .before .before .before .before .rest .given .1))
+part-result-end c =
+    let r = c .before .before .before .before in
+    omega (arith, rest-within (now (r .before .before .before .before .args .s)) _ (sym (r .before .before .behind-tab .ensures) ∙ r .rest .given .1))
 
 returns-3 : tie.Need-returns-3
-returns-3 c = second-is (now (c .before .before .before .before .before .before .before .before .before .args .s)) _ (sym (c .before .before .before .before .before .before .before .behind-tab .ensures) ∙ c .before .before .before .before .before .rest .given .1) (c .before .before .find .result) (c .before .before .find .ensures)
+returns-3 c =
+    let at = c .before .before in
+    let r = at .before .before .before in
+    second-is (now (r .before .before .before .before .args .s)) _ (sym (r .before .before .behind-tab .ensures) ∙ r .rest .given .1) (at .find .result) (at .find .ensures)
 
 pub second-line-spec : {M : Type 1} → statement M
 second-line-spec =
