@@ -2,11 +2,11 @@ use mathlib.Core.Path.{sym, _∙_}
 use native.Mathlib.Omega.{arith}
 use denote.Ref.{now}
 use borrow.Author.Tests.{not-true, not-false}
 use Rattle.number.proofs.Cutting.{place-within, cut-length}
-use Rattle.number.proofs.Tabs.{no-tab, no-texts, rest-at}
+use Rattle.lines.proofs.Tabs.{no-tab, no-texts, rest-at}
 use borrow.Author.Needs.{needs}
-use Rattle.number.proofs.lines.behind_tab.Statement.{statement}
-use Rattle.number.proofs.lines.behind_tab.Tie as tie
+use Rattle.lines.proofs.behind_tab.Statement.{statement}
+use Rattle.lines.proofs.behind_tab.Tie as tie
 
 find-requires : tie.Need-find-requires
 find-requires c κs = search needs

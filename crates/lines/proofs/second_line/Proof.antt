@@ -1,10 +1,10 @@
 use mathlib.Core.Path.{sym, _∙_}
 use native.Mathlib.Omega.{arith}
 use denote.Ref.{now}
-use Rattle.number.proofs.Tabs.{second-none, rest-starts, rest-within, tab-length, feed-within, second-empty, second-is}
+use Rattle.lines.proofs.Tabs.{second-none, rest-starts, rest-within, tab-length, feed-within, second-empty, second-is}
 use borrow.Author.Needs.{needs}
-use Rattle.number.proofs.lines.second_line.Statement.{statement}
-use Rattle.number.proofs.lines.second_line.Tie as tie
+use Rattle.lines.proofs.second_line.Statement.{statement}
+use Rattle.lines.proofs.second_line.Tie as tie
 
 behind-tab-requires : tie.Need-behind-tab-requires
 behind-tab-requires c κs = search needs

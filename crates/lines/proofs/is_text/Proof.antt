@@ -7,10 +7,10 @@ use lib.ListN.{length, drop}
 use borrow.Author.Tests.{le-leb, lt-leb}
 use Rattle.wire.specs.Bytes.{every}
 use Rattle.wire.proofs.Suits.{every-turn, every-stop, every-done}
-use Rattle.number.specs.Texts.{isText}
-use Rattle.number.proofs.Tabs.{text-long, text-short}
-use Rattle.number.proofs.lines.is_text.Statement.{statement}
-use Rattle.number.proofs.lines.is_text.Tie as tie
+use Rattle.lines.specs.Texts.{isText}
+use Rattle.lines.proofs.Tabs.{text-long, text-short}
+use Rattle.lines.proofs.is_text.Statement.{statement}
+use Rattle.lines.proofs.is_text.Tie as tie
 
 abbrev Inv-loop : tie.InvT-loop
 Inv-loop s i₀ i = (i ≤ length s) × (isText s ≡ every (leb 0x20) (drop i s))

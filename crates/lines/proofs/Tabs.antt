@@ -10,11 +10,11 @@ use lib.Seq.{length-take-le, take-take}
 use borrow.Author.Tests.{le-leb, lt-leb, lt-ltb, le-ltb, ltb-true}
 use Rattle.wire.specs.Bytes.{every}
 use Rattle.wire.proofs.Suits.{both}
 use Rattle.number.specs.Parts.{place, has, upTo}
-use Rattle.number.specs.Texts.{tab, lineFeed, isText, areTexts, beginsWithTexts, restOf, firstLine, secondLine}
+use Rattle.lines.specs.Texts.{tab, lineFeed, isText, areTexts, beginsWithTexts, restOf, firstLine, secondLine}
 use Rattle.number.proofs.Cutting.{place-within, drop-take}
-use Rattle.number.specs.declared.Found.{Found}
-use Rattle.number.specs.declared.Found.the-variants.{At, NotThere}
+use Rattle.lines.specs.declared.Found.{Found}
+use Rattle.lines.specs.declared.Found.the-variants.{At, NotThere}
 
 pub text-long : (s : List ℕ) → 42 < length s → false ≡ isText s
 text-long s h = rw (lt-leb (length s) 42 h)

@@ -1,8 +1,13 @@
 // The texts before a Tab: L1 and L2 are handed on as parts of the lent data.
-use crate::Found;
-use crate::find;
+use number::find;
 ghost use mathlib.Core.Path.{_≡_};
-ghost use Rattle.number.specs.Texts.{isText, areTexts, restOf, firstLine, secondLine};
+ghost use Rattle.lines.specs.Texts.{isText, areTexts, restOf, firstLine, secondLine};
+
+// Where the rest behind the texts and their Tab begins, or syntax.
+pub enum Found {
+    At(usize),
+    NotThere,
+}
 
 // Up to 42 bytes, each 20h up.
 pub fn is_text(s: &[u8]) -> bool

@@ -3,12 +3,12 @@ use Prim.Native.Nat.{_+_}
 use native.Mathlib.Omega.{arith}
 use denote.Ref.{now}
 use borrow.Author.Tests.{not-true, not-false}
-use Rattle.number.specs.Texts.{isText}
+use Rattle.lines.specs.Texts.{isText}
 use Rattle.number.proofs.Cutting.{place-within, cut-length, to-end}
-use Rattle.number.proofs.Tabs.{first-not, one-text, two-texts}
+use Rattle.lines.proofs.Tabs.{first-not, one-text, two-texts}
 use borrow.Author.Needs.{needs}
-use Rattle.number.proofs.lines.are_texts.Statement.{statement}
-use Rattle.number.proofs.lines.are_texts.Tie as tie
+use Rattle.lines.proofs.are_texts.Statement.{statement}
+use Rattle.lines.proofs.are_texts.Tie as tie
 
 find-requires : tie.Need-find-requires
 find-requires c κs = search needs

@@ -1,9 +1,9 @@
 use mathlib.Core.Path.{sym, _∙_}
 use denote.Ref.{now}
-use Rattle.number.proofs.Tabs.{first-none, rest-starts, tab-length, first-length, first-is}
+use Rattle.lines.proofs.Tabs.{first-none, rest-starts, tab-length, first-length, first-is}
 use borrow.Author.Needs.{needs}
-use Rattle.number.proofs.lines.first_line.Statement.{statement}
-use Rattle.number.proofs.lines.first_line.Tie as tie
+use Rattle.lines.proofs.first_line.Statement.{statement}
+use Rattle.lines.proofs.first_line.Tie as tie
 
 behind-tab-requires : tie.Need-behind-tab-requires
 behind-tab-requires c κs = search needs

@@ -5,9 +5,9 @@ use mathlib.Core.List.{List, []}
 use lib.Dec.{leb}
 use lib.ListN.{length}
 use Rattle.wire.specs.Bytes.{every}
 use Rattle.number.specs.Parts.{place, has, upTo, past}
-use Rattle.number.specs.declared.Found.{Found}
-use Rattle.number.specs.declared.Found.the-variants.{At, NotThere}
+use Rattle.lines.specs.declared.Found.{Found}
+use Rattle.lines.specs.declared.Found.the-variants.{At, NotThere}
 
 -- "Texts up to 42 bytes, each byte 20h up (002)"; 42's data is one text, "text bytes as in 49"
 abbrev pub isText : List ℕ → Bool
