@@ -1,3 +1,3 @@
 pub mod Parts
 pub mod Numbers
-pub mod Texts
+pub mod Private

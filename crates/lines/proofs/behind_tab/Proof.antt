@@ -2,11 +2,11 @@ use mathlib.Core.Path.{sym, _∙_}
 use native.Mathlib.Omega.{arith}
 use denote.Ref.{now}
 use borrow.Author.Tests.{not-true, not-false}
 use Rattle.number.proofs.Cutting.{place-within, cut-length}
-use Rattle.number.proofs.Tabs.{no-tab, no-texts, rest-at}
+use Rattle.lines.proofs.Tabs.{no-tab, no-texts, rest-at}
 use borrow.Author.Needs.{needs}
-use Rattle.number.proofs.lines.behind_tab.Statement.{statement}
-use Rattle.number.proofs.lines.behind_tab.Tie as tie
+use Rattle.lines.proofs.behind_tab.Statement.{statement}
+use Rattle.lines.proofs.behind_tab.Tie as tie
 
 find-requires : tie.Need-find-requires
 find-requires c κs = search needs
@@ -22,16 +22,18 @@ are-texts-requires c κs = search needs
 
 returns-2 : tie.Need-returns-2
 returns-2 c =
-    let s = now (c .before .before .before .before .before .before .args .s) in
-    no-texts s (c .before .before .before .before .find .result) (c .before .before .before .before .find .ensures) (omega (arith, place-within 0x09 s)) (sym (c .before .are-texts .ensures) ∙ not-true _ (c .if2 .taken))
+    let at = c .before .before .before .before in
+    let s = now (at .before .before .args .s) in
+    no-texts s (at .find .result) (at .find .ensures) (omega (arith, place-within 0x09 s)) (sym (c .before .are-texts .ensures) ∙ not-true _ (c .if2 .taken))
 
 add-t3 : tie.Need-add-t3
 add-t3 c = omega (arith, place-within 0x09 (now (c .before .before .before .before .before .before .args .s)))
 
 returns-3 : tie.Need-returns-3
 returns-3 c =
-    let s = now (c .before .before .before .before .before .before .args .s) in
-    rest-at s (c .before .before .before .before .find .result) (c .before .before .before .before .find .ensures) (omega (arith, place-within 0x09 s)) (sym (c .before .are-texts .ensures) ∙ not-false _ (c .if2 .left))
+    let at = c .before .before .before .before in
+    let s = now (at .before .before .args .s) in
+    rest-at s (at .find .result) (at .find .ensures) (omega (arith, place-within 0x09 s)) (sym (c .before .are-texts .ensures) ∙ not-false _ (c .if2 .left))
 
 pub behind-tab-spec : {M : Type 1} → statement M
 behind-tab-spec =

@@ -3,12 +3,12 @@ use Prim.Native.Nat.{_+_}
 use native.Mathlib.Omega.{arith}
 use denote.Ref.{now}
 use borrow.Author.Tests.{not-true, not-false}
-use Rattle.number.specs.Texts.{isText}
+use Rattle.lines.specs.Texts.{isText}
 use Rattle.number.proofs.Cutting.{place-within, cut-length, to-end}
-use Rattle.number.proofs.Tabs.{first-not, one-text, two-texts}
+use Rattle.lines.proofs.Tabs.{first-not, one-text, two-texts}
 use borrow.Author.Needs.{needs}
-use Rattle.number.proofs.lines.are_texts.Statement.{statement}
-use Rattle.number.proofs.lines.are_texts.Tie as tie
+use Rattle.lines.proofs.are_texts.Statement.{statement}
+use Rattle.lines.proofs.are_texts.Tie as tie
 
 find-requires : tie.Need-find-requires
 find-requires c κs = search needs
@@ -20,10 +20,14 @@ is-text-requires : tie.Need-is-text-requires
 is-text-requires c κs = search needs
 
 returns : tie.Need-returns
-returns c = first-not (now (c .before .before .before .before .before .args .s)) (c .before .before .before .find .result) (c .before .before .before .find .ensures) (sym (c .before .is-text .ensures) ∙ not-true _ (c .if1 .taken))
+returns c =
+    let at = c .before .before .before in
+    first-not (now (at .before .before .args .s)) (at .find .result) (at .find .ensures) (sym (c .before .is-text .ensures) ∙ not-true _ (c .if1 .taken))
 
 returns-2 : tie.Need-returns-2
-returns-2 c = one-text (now (c .before .before .before .before .before .before .args .s)) (c .before .before .before .before .find .result) (c .before .before .before .before .find .ensures) (sym (c .before .before .is-text .ensures) ∙ not-false _ (c .before .if1 .left)) (c .if2 .taken)
+returns-2 c =
+    let at = c .before .before .before .before in
+    one-text (now (at .before .before .args .s)) (at .find .result) (at .find .ensures) (sym (c .before .before .is-text .ensures) ∙ not-false _ (c .before .if1 .left)) (c .if2 .taken)
 
 add-next : tie.Need-add-next
 add-next c = omega (arith, place-within 0x0A (now (c .before .before .before .before .before .before .args .s)))
@@ -42,9 +46,10 @@ is-text-requires-2 c κs = search needs
 
 returns-3 : tie.Need-returns-3
 returns-3 c =
-    let s = now (c .before .before .before .before .before .before .before .before .args .s) in let at = c .before .before .before .before .before .before .find .result in
-    c .is-text2 .ensures ∙ ap isText (to-end (at + 1) s)
-    ∙ two-texts s at (c .before .before .before .before .before .before .find .ensures) (sym (c .before .before .before .before .is-text .ensures) ∙ not-false _ (c .before .before .before .if1 .left))
+    let at = c .before .before .before .before .before .before in
+    let s = now (at .before .before .args .s) in
+    c .is-text2 .ensures ∙ ap isText (to-end (at .find .result + 1) s)
+    ∙ two-texts s (at .find .result) (at .find .ensures) (sym (c .before .before .before .before .is-text .ensures) ∙ not-false _ (c .before .before .before .if1 .left))
 
 pub are-texts-spec : {M : Type 1} → statement M
 are-texts-spec =

@@ -10,11 +10,11 @@ use lib.Seq.{length-take-le, take-take}
 use borrow.Author.Tests.{le-leb, lt-leb, lt-ltb, le-ltb, ltb-true}
 use Rattle.wire.specs.Bytes.{every}
 use Rattle.wire.proofs.Suits.{both}
-use Rattle.number.specs.Parts.{place, has, upTo}
-use Rattle.number.specs.Texts.{tab, lineFeed, isText, areTexts, beginsWithTexts, restOf, firstLine, secondLine}
+use Rattle.number.specs.Parts.{place, has, upTo, past}
+use Rattle.lines.specs.Texts.{tab, lineFeed, isText, areTexts, beginsWithTexts, restOf, firstLine, secondLine}
 use Rattle.number.proofs.Cutting.{place-within, drop-take}
-use Rattle.number.specs.declared.Found.{Found}
-use Rattle.number.specs.declared.Found.the-variants.{At, NotThere}
+use Rattle.lines.specs.declared.Found.{Found}
+use Rattle.lines.specs.declared.Found.the-variants.{At, NotThere}
 
 pub text-long : (s : List ℕ) → 42 < length s → false ≡ isText s
 text-long s h = rw (lt-leb (length s) 42 h)
@@ -66,7 +66,7 @@ module _ (s : List ℕ) (at : ℕ) (found : at ≡ place tab s) where
 
 -- what the place of the rest tells
 module _ (s : List ℕ) where
-  not-begun : restOf s ≡ NotThere → beginsWithTexts s ≡ false
+  pub not-begun : restOf s ≡ NotThere → beginsWithTexts s ≡ false
   not-begun = go (beginsWithTexts s) refl
     where
       go : (b : Bool) → beginsWithTexts s ≡ b → cond b (At (place tab s + 1)) NotThere ≡ NotThere → beginsWithTexts s ≡ false
@@ -79,7 +79,7 @@ module _ (s : List ℕ) where
   pub second-none : restOf s ≡ NotThere → [] ≡ secondLine s
   second-none h = rw (not-begun h)
 
-  begun : (next : ℕ) → restOf s ≡ At next → (beginsWithTexts s ≡ true) × (next ≡ place tab s + 1)
+  pub begun : (next : ℕ) → restOf s ≡ At next → (beginsWithTexts s ≡ true) × (next ≡ place tab s + 1)
   begun next = go (beginsWithTexts s) refl
     where
       go : (b : Bool) → beginsWithTexts s ≡ b → cond b (At (place tab s + 1)) NotThere ≡ At next → (beginsWithTexts s ≡ true) × (next ≡ place tab s + 1)
@@ -97,6 +97,9 @@ module _ (s : List ℕ) (next : ℕ) (rest : restOf s ≡ At next) where
   rest-within =
       let inside : place tab s < length s = ltb-true (place tab s) (length s) (both (has tab s) (areTexts (upTo tab s)) (begun s next rest .0) .0) in
       omega (arith, tab-at)
+
+  pub rest-past : drop next s ≡ past tab s
+  rest-past = ap (λ k. drop k s) tab-at
 
   pub tab-length : next - 1 ≡ length (take (next - 1) s)
   tab-length = sym (length-take-le (next - 1) s (omega (arith, rest-within)))

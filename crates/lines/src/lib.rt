@@ -1,8 +1,13 @@
 // The texts before a Tab: L1 and L2 are handed on as parts of the lent data.
-use crate::Found;
-use crate::find;
+use number::find;
 ghost use mathlib.Core.Path.{_≡_};
-ghost use Rattle.number.specs.Texts.{isText, areTexts, restOf, firstLine, secondLine};
+ghost use Rattle.lines.specs.Texts.{isText, areTexts, restOf, firstLine, secondLine};
+
+// Where the rest behind the texts and their Tab begins, or syntax: reply number 1.
+pub enum Found {
+    At(usize),
+    NotThere,
+}
 
 // Up to 42 bytes, each 20h up.
 pub fn is_text(s: &[u8]) -> bool
@@ -36,6 +41,7 @@ fn are_texts(s: &[u8]) -> bool
     is_text(&s[next..])
 }
 
+// Where the rest begins, if well-formed texts and a Tab stand before it.
 pub fn behind_tab(s: &[u8]) -> Found
     ensures { λ r. ⌜ r ≡ restOf (now (s .entry)) ⌝ }
 {
@@ -49,6 +55,7 @@ pub fn behind_tab(s: &[u8]) -> Found
     Found::At(at + 1)
 }
 
+// L1: up to the line feed, or up to the Tab.
 pub fn first_line(s: &[u8]) -> &[u8]
     ensures { λ r. ⌜ now r ≡ firstLine (now (s .entry)) ⌝ }
 {
@@ -61,6 +68,7 @@ pub fn first_line(s: &[u8]) -> &[u8]
     &s[..end]
 }
 
+// L2: from behind the line feed up to the Tab.
 pub fn second_line(s: &[u8]) -> &[u8]
     ensures { λ r. ⌜ now r ≡ secondLine (now (s .entry)) ⌝ }
 {

@@ -5,11 +5,11 @@ use mathlib.Core.List.{List, []}
 use lib.Dec.{leb}
 use lib.ListN.{length}
 use Rattle.wire.specs.Bytes.{every}
 use Rattle.number.specs.Parts.{place, has, upTo, past}
-use Rattle.number.specs.declared.Found.{Found}
-use Rattle.number.specs.declared.Found.the-variants.{At, NotThere}
+use Rattle.lines.specs.declared.Found.{Found}
+use Rattle.lines.specs.declared.Found.the-variants.{At, NotThere}
 
--- "Texts up to 42 bytes, each byte 20h up (002)"
+-- "Texts up to 42 bytes, each byte 20h up (002)"; 42's data is one text, "text bytes as in 49"
 abbrev pub isText : List ℕ → Bool
 isText s = leb (length s) 42 && every (leb 0x20) s
 
@@ -27,11 +27,11 @@ areTexts s = isText (upTo lineFeed s) && isText (past lineFeed s)
 abbrev pub beginsWithTexts : List ℕ → Bool
 beginsWithTexts s = has tab s && areTexts (upTo tab s)
 
--- where the rest begins; data of another form is syntax, reply number 1
+-- where the rest begins. "Data not of the form shown is 1": NotThere is reply number 1.
 abbrev pub restOf : List ℕ → Found
 restOf s = cond (beginsWithTexts s) (At (place tab s + 1)) NotThere
 
--- L1 and L2, each of no bytes where it is left out
+-- "The line of text handed on is the part of the frame's own bytes": L1 and L2, each of no bytes where it is left out
 abbrev pub firstLine : List ℕ → List ℕ
 firstLine s = cond (beginsWithTexts s) (upTo lineFeed (upTo tab s)) []
 
