@@ -1,18 +1,17 @@
 -- Laws of the forms, as the code's branches ask them.
 use mathlib.Core.Path.{_≡_, refl, sym, ap, _∙_}
-use mathlib.Core.Bool.{Bool, true, false, cond, _&&_, _||_}
+use mathlib.Core.Bool.{true, false}
 use mathlib.Core.List.{List, [], _∷_}
-use Prim.Native.Nat.{ℕ, zero, suc, _+_, _-_, _≤_, _<_}
+use Prim.Native.Nat.{ℕ, _+_, _-_, _≤_, _<_}
 use native.Mathlib.Omega.{arith}
-use lib.Dec.{leb, ltb, eqb}
+use lib.Dec.{ltb}
 use lib.ListN.{length, getD, take, drop}
 use lib.Seq.{take-all}
 use borrow.Author.Tests.{lt-ltb, le-ltb, ltb-false}
-use Rattle.number.specs.Parts.{place, has, upTo, past}
-use Rattle.number.proofs.Cutting.{place-within, to-end}
+use Rattle.figures.specs.Parts.{place, has, upTo, past}
+use Rattle.figures.proofs.Cutting.{place-within, to-end}
 use Rattle.command.specs.Plain.{sumsOf, closingOf}
-use Rattle.command.specs.declared.Parsed.{Parsed}
-use Rattle.command.specs.declared.Parsed.the-variants.{Read, Syntax}
+use Rattle.command.specs.declared.Parsed.the-variants.{Syntax}
 
 -- a list of no byte, and of one
 pub none : (s : List ℕ) → length s ≡ 0 → s ≡ []

@@ -1,7 +1,7 @@
 -- What is common to the forms of document 01, "Commands".
 use Prim.Native.Nat.{ℕ}
-use Rattle.number.specs.declared.Number.{Number}
-use Rattle.number.specs.declared.Number.the-variants.{Is, NotOne}
+use Rattle.figures.specs.declared.Number.{Number}
+use Rattle.figures.specs.declared.Number.the-variants.{Is, NotOne}
 use Rattle.command.specs.declared.Parsed.{Parsed}
 use Rattle.command.specs.declared.Parsed.the-variants.{Read, Syntax, Unknown}
 

@@ -5,9 +5,9 @@ use mathlib.Core.List.{List, [], _∷_}
 use lib.Dec.{leb, eqb}
 use lib.ListN.{length, getD}
 use Rattle.wire.specs.Bytes.{within}
-use Rattle.number.specs.Parts.{has, upTo, past}
-use Rattle.number.specs.Numbers.{fieldOf}
-use Rattle.number.specs.Texts.{isText}
+use Rattle.figures.specs.Parts.{has, upTo, past}
+use Rattle.figures.specs.Numbers.{fieldOf}
+use Rattle.lines.specs.Texts.{isText}
 use Rattle.command.specs.Fields.{given, comma}
 use Rattle.command.specs.declared.Command.{Command}
 use Rattle.command.specs.declared.Command.the-variants.{PrintText, Open, Subtotal, Sums, Closing}

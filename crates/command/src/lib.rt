@@ -60,7 +60,7 @@ pub enum Service {
     Out(u64),
 }
 
-// The fourteen kinds. The texts of 42, 49 and 53 stay in the data: `number::lines` hands them out.
+// The fourteen kinds. The texts of 42, 49 and 53 stay in the data: `figures::lines` hands them out.
 pub enum Command {
     OpenText,
     CloseText,

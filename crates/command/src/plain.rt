@@ -2,7 +2,7 @@
 use crate::Command;
 use crate::Parsed;
 use crate::Password;
-use number::Number;
+use figures::Number;
 ghost use mathlib.Core.Path.{_≡_};
 ghost use Rattle.command.specs.Plain.{bareOf, textOf, openOf, openWith, subtotalOf, isFlag, sumsOf, closingOf};
 
@@ -18,7 +18,7 @@ pub fn bare(command: Command, s: &[u8]) -> Parsed
 pub fn text(s: &[u8]) -> Parsed
     ensures { λ r. ⌜ r ≡ textOf (now (s .entry)) ⌝ }
 {
-    if number::lines::is_text(s) {
+    if lines::is_text(s) {
         return Parsed::Read(Command::PrintText);
     }
     Parsed::Syntax
@@ -27,13 +27,13 @@ pub fn text(s: &[u8]) -> Parsed
 pub fn open_receipt(s: &[u8]) -> Parsed
     ensures { λ r. ⌜ r ≡ openOf (now (s .entry)) ⌝ }
 {
-    let first = number::find(s, b',');
+    let first = figures::find(s, b',');
     if first == s.len() {
         return Parsed::Syntax;
     }
     let next = first + 1;
     let rest = &s[next..];
-    let second = number::find(rest, b',');
+    let second = figures::find(rest, b',');
     if second == rest.len() {
         return Parsed::Syntax;
     }
@@ -44,15 +44,15 @@ pub fn open_receipt(s: &[u8]) -> Parsed
 fn open_with(op: &[u8], password: &[u8], till: &[u8]) -> Parsed
     ensures { λ r. ⌜ r ≡ openWith (now (op .entry)) (now (password .entry)) (now (till .entry)) ⌝ }
 {
-    let a = number::whole(op, 1);
+    let a = figures::digits(op, 1);
     let Number::Is(o) = a else {
         return Parsed::Syntax;
     };
-    let b = number::whole(password, 6);
+    let b = figures::digits(password, 6);
     let Number::Is(p) = b else {
         return Parsed::Syntax;
     };
-    let c = number::whole(till, 5);
+    let c = figures::digits(till, 5);
     let Number::Is(t) = c else {
         return Parsed::Syntax;
     };

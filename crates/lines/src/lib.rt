@@ -1,5 +1,5 @@
 // The texts before a Tab: L1 and L2 are handed on as parts of the lent data.
-use number::find;
+use figures::find;
 ghost use mathlib.Core.Path.{_≡_};
 ghost use Rattle.lines.specs.Texts.{isText, areTexts, restOf, firstLine, secondLine};
 

@@ -1,74 +1,92 @@
+use lib.ListN.{length-take, length, take, drop}
+use mathlib.Core.Path.{_∙_}
+use Prim.Native.Nat.{_+_, _-_}
+use native.Mathlib.Omega.{arith}
+use denote.Ref.{now}
+use Rattle.figures.proofs.Cutting.{cut-length}
+use Rattle.command.proofs.Forms.{found-ne, missed-eq, at-most, front, behind}
+use Rattle.command.specs.Fields.{comma}
+use Rattle.command.proofs.Openings.{no-comma, one-comma, two-commas}
 use borrow.Author.Needs.{needs}
 use Rattle.command.proofs.plain.open_receipt.Statement.{statement}
 use Rattle.command.proofs.plain.open_receipt.Tie as tie
-use Rattle.command.proofs.plain.open_receipt.Reads as reads
-use Rattle.command.proofs.plain.open_receipt.Lts as lts
-use Rattle.command.proofs.plain.open_with.Reads as open-with-reads
-use Rattle.number.proofs.find.Reads as find-reads
 
--- src/plain.rt:30:9
 find-requires : tie.Need-find-requires
 find-requires c κs = search needs
 
--- src/plain.rt:32:9
 returns : tie.Need-returns
-returns c = ?
+returns c =
+    let s = now (c .before .before .before .args .s) in
+    no-comma s (missed-eq comma s (c .before .find .result) (c .before .find .ensures) (c .if1 .taken))
 
--- src/plain.rt:34:16
 add-next : tie.Need-add-next
-add-next c = ?
+add-next c = omega (arith, at-most comma (now (c .before .before .before .args .s)) (c .before .find .result) (c .before .find .ensures))
 
--- src/plain.rt:35:16
 sub-rest : tie.Need-sub-rest
-sub-rest c = ?
+sub-rest c = omega (arith, at-most comma (now (c .before .before .before .args .s)) (c .before .find .result) (c .before .find .ensures), c .if1 .left)
 
--- src/plain.rt:35:16
 part-rest-start : tie.Need-part-rest-start
-part-rest-start c = ?
+part-rest-start c = omega (arith, at-most comma (now (c .before .before .before .args .s)) (c .before .find .result) (c .before .find .ensures), c .if1 .left)
 
--- src/plain.rt:35:16
 part-rest-end : tie.Need-part-rest-end
 part-rest-end c = search needs
 
--- src/plain.rt:36:9
 find-requires-2 : tie.Need-find-requires-2
 find-requires-2 c κs = search needs
 
--- src/plain.rt:38:9
 returns-2 : tie.Need-returns-2
-returns-2 c = ?
+returns-2 c =
+    let s = now (c .before .before .before .before .before .before .args .s) in
+    let f = c .before .before .before .before .find in
+    let r = take (length s - (f .result + 1)) (drop (f .result + 1) s) in
+    one-comma s r (behind comma s (f .result) (f .ensures)) (found-ne comma s (f .result) (f .ensures) (c .before .before .before .if1 .left)) (missed-eq comma r (c .before .find2 .result) (c .before .find2 .ensures) (c .if2 .taken))
 
--- src/plain.rt:40:16
 add-last : tie.Need-add-last
-add-last c = ?
+add-last c =
+    let s = now (c .before .before .before .before .before .before .args .s) in
+    let f = c .before .before .before .before .find in
+    let r = take (length s - (f .result + 1)) (drop (f .result + 1) s) in
+    omega (arith, at-most comma r (c .before .find2 .result) (c .before .find2 .ensures), length-take (length s - (f .result + 1)) (drop (f .result + 1) s), c .before .before .before .before .before .before .good)
 
--- src/plain.rt:41:15
 slice-aggregate-open-with : tie.Need-slice-aggregate-open-with
-slice-aggregate-open-with c = ?
+slice-aggregate-open-with c = cut-length comma (now (c .before .before .before .before .before .before .before .args .s)) (c .before .before .before .before .before .find .result) (c .before .before .before .before .before .find .ensures)
 
--- src/plain.rt:41:28
 slice-aggregate-open-with-2 : tie.Need-slice-aggregate-open-with-2
-slice-aggregate-open-with-2 c = ?
+slice-aggregate-open-with-2 c =
+    let s = now (c .before .before .before .before .before .before .before .before .args .s) in
+    let f = c .before .before .before .before .before .before .find in
+    let r = take (length s - (f .result + 1)) (drop (f .result + 1) s) in
+    cut-length comma r (c .before .before .before .find2 .result) (c .before .before .before .find2 .ensures)
 
--- src/plain.rt:41:45
 sub-open-with : tie.Need-sub-open-with
-sub-open-with c = ?
+sub-open-with c =
+    let s = now (c .before .before .before .before .before .before .before .before .args .s) in
+    let f = c .before .before .before .before .before .before .find in
+    let r = take (length s - (f .result + 1)) (drop (f .result + 1) s) in
+    omega (arith, at-most comma r (c .before .before .before .find2 .result) (c .before .before .before .find2 .ensures), c .before .before .if2 .left)
 
--- src/plain.rt:41:45
 part-open-with-start : tie.Need-part-open-with-start
-part-open-with-start c = ?
+part-open-with-start c =
+    let s = now (c .before .before .before .before .before .before .before .before .args .s) in
+    let f = c .before .before .before .before .before .before .find in
+    let r = take (length s - (f .result + 1)) (drop (f .result + 1) s) in
+    omega (arith, at-most comma r (c .before .before .before .find2 .result) (c .before .before .before .find2 .ensures), c .before .before .if2 .left)
 
--- src/plain.rt:41:45
 part-open-with-end : tie.Need-part-open-with-end
 part-open-with-end c = search needs
 
--- src/plain.rt:41:5
 open-with-requires : tie.Need-open-with-requires
 open-with-requires c κs = search needs
 
--- src/plain.rt:27:1
 returns-3 : tie.Need-returns-3
-returns-3 c = ?
+returns-3 c =
+    let s = now (c .before .before .before .before .before .before .before .before .before .before .args .s) in
+    let f = c .before .before .before .before .before .before .before .before .find in
+    let g = c .before .before .before .before .before .find2 in
+    let r = take (length s - (f .result + 1)) (drop (f .result + 1) s) in
+    c .open-with .ensures
+    ∙ two-commas s r _ _ _ (behind comma s (f .result) (f .ensures)) (found-ne comma s (f .result) (f .ensures) (c .before .before .before .before .before .before .before .if1 .left)) (found-ne comma r (g .result) (g .ensures) (c .before .before .before .before .if2 .left))
+    (front comma s (f .result) (f .ensures)) (front comma r (g .result) (g .ensures)) (behind comma r (g .result) (g .ensures))
 
 pub open-receipt-spec : {M : Type 1} → statement M
 open-receipt-spec =

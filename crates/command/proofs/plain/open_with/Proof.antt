@@ -1,87 +1,89 @@
+use mathlib.Core.Path.{sym, _∙_}
+use denote.Ref.{now}
+use Rattle.command.proofs.Openings.{no-op, no-password, no-till, op-low, op-high, password-short, opened}
 use borrow.Author.Needs.{needs}
 use Rattle.command.proofs.plain.open_with.Statement.{statement}
 use Rattle.command.proofs.plain.open_with.Tie as tie
-use Rattle.command.proofs.plain.open_with.Reads as reads
-use Rattle.command.proofs.plain.open_with.Lts as lts
-use Rattle.number.proofs.whole.Reads as whole-reads
 
--- src/plain.rt:47:9
-whole-requires : tie.Need-whole-requires
-whole-requires c κs = search needs
+digits-requires : tie.Need-digits-requires
+digits-requires c κs = search needs
 
--- src/plain.rt:48:20
 enum-known-a : tie.Need-enum-known-a
 enum-known-a c = search needs
 
--- src/plain.rt:49:9
 enum-told : tie.Need-enum-told
 enum-told c = search needs
 
--- src/plain.rt:49:9
 returns : tie.Need-returns
-returns c = ?
+returns c =
+    let a = c .before .before .before .before .before .before .args in
+    no-op (now (a .op)) (now (a .password)) (now (a .till)) (sym (c .before .before .digits .ensures) ∙ c .enum-told .given .1)
 
--- src/plain.rt:51:9
-whole-requires-2 : tie.Need-whole-requires-2
-whole-requires-2 c κs = search needs
+digits-requires-2 : tie.Need-digits-requires-2
+digits-requires-2 c κs = search needs
 
--- src/plain.rt:52:20
 enum-known-b : tie.Need-enum-known-b
 enum-known-b c = search needs
 
--- src/plain.rt:53:9
 enum-told-2 : tie.Need-enum-told-2
 enum-told-2 c = search needs
 
--- src/plain.rt:53:9
 returns-2 : tie.Need-returns-2
-returns-2 c = ?
+returns-2 c =
+    let a = c .before .before .before .before .before .before .before .before .before .before .args in
+    no-password (now (a .op)) (now (a .password)) (now (a .till)) _ (sym (c .before .before .before .before .before .before .digits .ensures) ∙ c .before .before .before .before .a .given .1) (sym (c .before .before .digits2 .ensures) ∙ c .enum-told2 .given .1)
 
--- src/plain.rt:55:9
-whole-requires-3 : tie.Need-whole-requires-3
-whole-requires-3 c κs = search needs
+digits-requires-3 : tie.Need-digits-requires-3
+digits-requires-3 c κs = search needs
 
--- src/plain.rt:56:20
 enum-known-c : tie.Need-enum-known-c
 enum-known-c c = search needs
 
--- src/plain.rt:57:9
 enum-told-3 : tie.Need-enum-told-3
 enum-told-3 c = search needs
 
--- src/plain.rt:57:9
 returns-3 : tie.Need-returns-3
-returns-3 c = ?
+returns-3 c =
+    let a = c .before .before .before .before .before .before .before .before .before .before .before .before .before .before .args in
+    no-till (now (a .op)) (now (a .password)) (now (a .till)) _ _ (sym (c .before .before .before .before .before .before .before .before .before .before .digits .ensures) ∙ c .before .before .before .before .before .before .before .before .a .given .1) (sym (c .before .before .before .before .before .before .digits2 .ensures) ∙ c .before .before .before .before .b .given .1) (sym (c .before .before .digits3 .ensures) ∙ c .enum-told3 .given .1)
 
--- src/plain.rt:60:9
 returns-4 : tie.Need-returns-4
-returns-4 c = ?
+returns-4 c =
+    let a = c .before .before .before .before .before .before .before .before .before .before .before .before .before .before .before .before .args in
+    op-low (now (a .op)) (now (a .password)) (now (a .till)) _ _ _ (sym (c .before .before .before .before .before .before .before .before .before .before .before .before .digits .ensures) ∙ c .before .before .before .before .before .before .before .before .before .before .a .given .1) (sym (c .before .before .before .before .before .before .before .before .digits2 .ensures) ∙ c .before .before .before .before .before .before .b .given .1) (sym (c .before .before .before .before .digits3 .ensures) ∙ c .before .before .c .given .1)
+    (c .if1 .taken)
 
--- src/plain.rt:63:9
 returns-5 : tie.Need-returns-5
-returns-5 c = ?
+returns-5 c =
+    let a = c .before .before .before .before .before .before .before .before .before .before .before .before .before .before .before .before .before .args in
+    op-high (now (a .op)) (now (a .password)) (now (a .till)) _ _ _ (sym (c .before .before .before .before .before .before .before .before .before .before .before .before .before .digits .ensures) ∙ c .before .before .before .before .before .before .before .before .before .before .before .a .given .1) (sym (c .before .before .before .before .before .before .before .before .before .digits2 .ensures) ∙ c .before .before .before .before .before .before .before .b .given .1) (sym (c .before .before .before .before .before .digits3 .ensures) ∙ c .before .before .before .c .given .1)
+    (c .before .if1 .left) (c .if2 .taken)
 
--- src/plain.rt:66:9
 returns-6 : tie.Need-returns-6
-returns-6 c = ?
+returns-6 c =
+    let a = c .before .before .before .before .before .before .before .before .before .before .before .before .before .before .before .before .before .before .args in
+    password-short (now (a .op)) (now (a .password)) (now (a .till)) _ _ _ (sym (c .before .before .before .before .before .before .before .before .before .before .before .before .before .before .digits .ensures) ∙ c .before .before .before .before .before .before .before .before .before .before .before .before .a .given .1) (sym (c .before .before .before .before .before .before .before .before .before .before .digits2 .ensures) ∙ c .before .before .before .before .before .before .before .before .b .given .1) (sym (c .before .before .before .before .before .before .digits3 .ensures) ∙ c .before .before .before .before .c .given .1)
+    (c .before .before .if1 .left) (c .before .if2 .left) (c .if3 .taken)
 
--- src/plain.rt:44:1
 returns-7 : tie.Need-returns-7
-returns-7 c = ?
+returns-7 c =
+    let a = c .before .before .before .before .before .before .before .before .before .before .before .before .before .before .before .before .before .before .args in
+    opened (now (a .op)) (now (a .password)) (now (a .till)) _ _ _ (sym (c .before .before .before .before .before .before .before .before .before .before .before .before .before .before .digits .ensures) ∙ c .before .before .before .before .before .before .before .before .before .before .before .before .a .given .1) (sym (c .before .before .before .before .before .before .before .before .before .before .digits2 .ensures) ∙ c .before .before .before .before .before .before .before .before .b .given .1) (sym (c .before .before .before .before .before .before .digits3 .ensures) ∙ c .before .before .before .before .c .given .1)
+    (c .before .before .if1 .left) (c .before .if2 .left) (c .if3 .left)
 
 pub open-with-spec : {M : Type 1} → statement M
 open-with-spec =
     tie.close
     (tie.spec
-    whole-requires
+    digits-requires
     enum-known-a
     enum-told
     returns
-    whole-requires-2
+    digits-requires-2
     enum-known-b
     enum-told-2
     returns-2
-    whole-requires-3
+    digits-requires-3
     enum-known-c
     enum-told-3
     returns-3

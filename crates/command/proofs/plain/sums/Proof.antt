@@ -1,42 +1,30 @@
-use mathlib.Core.Path.{_≡_, refl, sym, ap, _∙_}
-use mathlib.Core.Bool.{true, false}
-use native.Mathlib.Omega.{arith}
 use denote.Ref.{now}
-use lib.ListN.{length, getD}
-use borrow.Author.Tests.{eq-eqb, ne-eqb, lt-leb, le-leb, not-true, not-false}
-use Rattle.command.proofs.Forms.{none, one, sums-long, closing-long}
-use Rattle.command.specs.Plain.{sumsOf, closingOf}
+use lib.ListN.{getD}
+use borrow.Author.Tests.{ne-eqb}
+use Rattle.command.proofs.Forms.{none, one, sums-long}
 use borrow.Author.Needs.{needs}
 use Rattle.command.proofs.plain.sums.Statement.{statement}
 use Rattle.command.proofs.plain.sums.Tie as tie
-use Rattle.command.proofs.plain.sums.Reads as reads
-use Rattle.command.proofs.plain.sums.Lts as lts
 
--- src/plain.rt:111:9
 returns : tie.Need-returns
 returns c = rw (none (now (c .before .args .s)) (c .if1 .taken))
 
--- src/plain.rt:114:9
 returns-2 : tie.Need-returns-2
 returns-2 c = sums-long (now (c .before .before .args .s)) (c .before .if1 .left) (c .if2 .taken)
 
--- src/plain.rt:116:13
 shared-slice-read-b : tie.Need-shared-slice-read-b
 shared-slice-read-b c = search needs
 
--- src/plain.rt:118:9
 returns-3 : tie.Need-returns-3
 returns-3 c =
     let s = now (c .before .before .before .before .args .s) in
     rw (one s (c .before .before .if2 .left)) (rw (c .if3 .taken))
 
--- src/plain.rt:121:9
 returns-4 : tie.Need-returns-4
 returns-4 c =
     let s = now (c .before .before .before .before .before .args .s) in
     rw (one s (c .before .before .before .if2 .left)) (rw (c .if4 .taken))
 
--- src/plain.rt:107:1
 returns-5 : tie.Need-returns-5
 returns-5 c =
     let s = now (c .before .before .before .before .before .args .s) in
