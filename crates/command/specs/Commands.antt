@@ -3,11 +3,11 @@ use Prim.Native.Nat.{ℕ}
 use mathlib.Core.Bool.{cond}
 use mathlib.Core.List.{List}
 use lib.Dec.{eqb}
-use Rattle.command.specs.Plain.{bareOf, textOf, openOf, subtotalOf, sumsOf, closingOf}
+use Rattle.kinds.specs.Plain.{bareOf, textOf, openOf, subtotalOf, sumsOf, closingOf}
 use Rattle.command.specs.Money.{sellOf, payOf, drawerOf}
-use Rattle.command.specs.declared.Command.the-variants.{OpenText, CloseText, Close, Cancel, Status, Rates}
-use Rattle.command.specs.declared.Parsed.{Parsed}
-use Rattle.command.specs.declared.Parsed.the-variants.{Unknown}
+use Rattle.kinds.specs.declared.Command.the-variants.{OpenText, CloseText, Close, Cancel, Status, Rates}
+use Rattle.kinds.specs.declared.Parsed.{Parsed}
+use Rattle.kinds.specs.declared.Parsed.the-variants.{Unknown}
 
 -- the code, then the data; an unknown command is 2 whatever its data
 abbrev pub parsedOf : ℕ → List ℕ → Parsed

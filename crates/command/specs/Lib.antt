@@ -1,4 +1,2 @@
-pub mod Fields
-pub mod Plain
 pub mod Money
 pub mod Commands

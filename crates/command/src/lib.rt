@@ -1,100 +1,11 @@
-// What the data of a command means (document 01, "Commands"): one of fourteen kinds, each with its own fields.
+// What the data of a command means (document 01, "Commands").
 pub mod money;
-pub mod plain;
 
+use kinds::Command;
+use kinds::Parsed;
+use kinds::plain;
 ghost use mathlib.Core.Path.{_≡_};
 ghost use Rattle.command.specs.Commands.{parsedOf};
-
-// Compared digit by digit, so with the number of its digits: 00000 is not 0000.
-pub struct Password {
-    pub digits: usize,
-    pub value: u64,
-}
-
-// What is done to a line behind its product: percents in hundredths, amounts in stotinki.
-pub enum Adjust {
-    Nothing,
-    PercentMore(u64),
-    PercentLess(u64),
-    AmountMore(u64),
-    AmountLess(u64),
-}
-
-// The same, read from the data, or syntax.
-pub enum Adjusted {
-    By(Adjust),
-    NotOne,
-}
-
-// A line of a receipt: price in stotinki, quantity in thousandths, the group from 0.
-pub struct Sale {
-    pub group: u64,
-    pub minus: bool,
-    pub price: u64,
-    pub quantity: u64,
-    pub adjust: Adjust,
-}
-
-// P, N, C, D or U, B or E.
-pub enum Mode {
-    Cash,
-    N,
-    C,
-    D,
-    B,
-}
-
-pub enum Tender {
-    Rest,
-    Amount(u64),
-}
-
-pub struct Payment {
-    pub mode: Mode,
-    pub tender: Tender,
-}
-
-pub enum Service {
-    Report,
-    In(u64),
-    Out(u64),
-}
-
-// The fourteen kinds. The texts of 42, 49 and 53 stay in the data: `figures::lines` hands them out.
-pub enum Command {
-    OpenText,
-    CloseText,
-    PrintText,
-    Open {
-        op: u64,
-        password: Password,
-        till: u64,
-    },
-    Sell(Sale),
-    Subtotal {
-        print: bool,
-        show: bool,
-    },
-    Pay(Payment),
-    Close,
-    Cancel,
-    Sums {
-        taxes: bool,
-    },
-    Closing {
-        clears: bool,
-    },
-    Drawer(Service),
-    Status,
-    Rates,
-}
-
-// A command, or reply number 1 or 2.
-pub enum Parsed {
-    Read(Command),
-    Syntax,
-    Unknown,
-}
 
 pub fn parse(code: u8, bytes: &[u8]) -> Parsed
     ensures { λ r. ⌜ r ≡ parsedOf code (now (bytes .entry)) ⌝ }

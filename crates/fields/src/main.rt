@@ -1,13 +1,13 @@
 // What each of a list of commands is read as. A record is the command's number, the number of its data bytes, and the data.
-use command::Adjust;
-use command::Command;
-use command::Mode;
-use command::Parsed;
-use command::Password;
-use command::Payment;
-use command::Sale;
-use command::Service;
-use command::Tender;
+use kinds::Adjust;
+use kinds::Command;
+use kinds::Mode;
+use kinds::Parsed;
+use kinds::Password;
+use kinds::Payment;
+use kinds::Sale;
+use kinds::Service;
+use kinds::Tender;
 use libc::STDIN_FILENO;
 use libc::STDOUT_FILENO;
 

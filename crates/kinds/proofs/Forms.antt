@@ -10,8 +10,8 @@ use lib.Seq.{take-all}
 use borrow.Author.Tests.{lt-ltb, le-ltb, ltb-false}
 use Rattle.figures.specs.Parts.{place, has, upTo, past}
 use Rattle.figures.proofs.Cutting.{place-within, to-end}
-use Rattle.command.specs.Plain.{sumsOf, closingOf}
-use Rattle.command.specs.declared.Parsed.the-variants.{Syntax}
+use Rattle.kinds.specs.Plain.{sumsOf, closingOf}
+use Rattle.kinds.specs.declared.Parsed.the-variants.{Syntax}
 
 -- a list of no byte, and of one
 pub none : (s : List ℕ) → length s ≡ 0 → s ≡ []

@@ -1,8 +1,8 @@
 use denote.Ref.{now}
 use lib.ListN.{length}
 use borrow.Author.Tests.{eq-eqb, ne-eqb}
-use Rattle.command.proofs.plain.bare.Statement.{statement}
-use Rattle.command.proofs.plain.bare.Tie as tie
+use Rattle.kinds.proofs.plain.bare.Statement.{statement}
+use Rattle.kinds.proofs.plain.bare.Tie as tie
 
 returns : tie.Need-returns
 returns c = rw (eq-eqb (length (now (c .before .args .s))) 0 (c .if1 .taken))

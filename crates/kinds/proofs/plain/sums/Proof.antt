@@ -1,10 +1,10 @@
 use denote.Ref.{now}
 use lib.ListN.{getD}
 use borrow.Author.Tests.{ne-eqb}
-use Rattle.command.proofs.Forms.{none, one, sums-long}
+use Rattle.kinds.proofs.Forms.{none, one, sums-long}
 use borrow.Author.Needs.{needs}
-use Rattle.command.proofs.plain.sums.Statement.{statement}
-use Rattle.command.proofs.plain.sums.Tie as tie
+use Rattle.kinds.proofs.plain.sums.Statement.{statement}
+use Rattle.kinds.proofs.plain.sums.Tie as tie
 
 returns : tie.Need-returns
 returns c = rw (none (now (c .before .args .s)) (c .if1 .taken))

@@ -4,7 +4,7 @@ use crate::Parsed;
 use crate::Password;
 use figures::Number;
 ghost use mathlib.Core.Path.{_≡_};
-ghost use Rattle.command.specs.Plain.{bareOf, textOf, openOf, openWith, subtotalOf, isFlag, sumsOf, closingOf};
+ghost use Rattle.kinds.specs.Plain.{bareOf, textOf, openOf, openWith, subtotalOf, isFlag, sumsOf, closingOf};
 
 pub fn bare(command: Command, s: &[u8]) -> Parsed
     ensures { λ r. ⌜ r ≡ bareOf command (now (s .entry)) ⌝ }

@@ -1,6 +1,6 @@
 use borrow.Author.Tests.{lt-leb, le-leb}
-use Rattle.command.proofs.plain.is_flag.Statement.{statement}
-use Rattle.command.proofs.plain.is_flag.Tie as tie
+use Rattle.kinds.proofs.plain.is_flag.Statement.{statement}
+use Rattle.kinds.proofs.plain.is_flag.Tie as tie
 
 returns : tie.Need-returns
 returns c = rw (lt-leb 0x30 (c .before .args .b) (c .if1 .taken))

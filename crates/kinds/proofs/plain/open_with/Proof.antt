@@ -1,9 +1,9 @@
 use mathlib.Core.Path.{sym, _∙_}
 use denote.Ref.{now}
-use Rattle.command.proofs.Openings.{no-op, no-password, no-till, op-low, op-high, password-short, opened}
+use Rattle.kinds.proofs.Openings.{no-op, no-password, no-till, op-low, op-high, password-short, opened}
 use borrow.Author.Needs.{needs}
-use Rattle.command.proofs.plain.open_with.Statement.{statement}
-use Rattle.command.proofs.plain.open_with.Tie as tie
+use Rattle.kinds.proofs.plain.open_with.Statement.{statement}
+use Rattle.kinds.proofs.plain.open_with.Tie as tie
 
 digits-requires : tie.Need-digits-requires
 digits-requires c κs = search needs

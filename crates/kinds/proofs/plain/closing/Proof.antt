@@ -1,10 +1,10 @@
 use denote.Ref.{now}
 use lib.ListN.{getD}
 use borrow.Author.Tests.{ne-eqb}
-use Rattle.command.proofs.Forms.{one, closing-long}
+use Rattle.kinds.proofs.Forms.{one, closing-long}
 use borrow.Author.Needs.{needs}
-use Rattle.command.proofs.plain.closing.Statement.{statement}
-use Rattle.command.proofs.plain.closing.Tie as tie
+use Rattle.kinds.proofs.plain.closing.Statement.{statement}
+use Rattle.kinds.proofs.plain.closing.Tie as tie
 
 returns : tie.Need-returns
 returns c = closing-long (now (c .before .args .s)) (c .if1 .taken)

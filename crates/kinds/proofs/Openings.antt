@@ -8,10 +8,10 @@ use borrow.Author.Tests.{lt-leb, le-leb}
 use Rattle.figures.specs.Parts.{has, upTo, past}
 use Rattle.figures.specs.Numbers.{fieldOf}
 use Rattle.figures.specs.declared.Number.the-variants.{Is, NotOne}
-use Rattle.command.specs.Fields.{comma}
-use Rattle.command.specs.Plain.{openWith, openOf}
-use Rattle.command.specs.declared.Command.the-variants.{Open}
-use Rattle.command.specs.declared.Parsed.the-variants.{Read, Syntax}
+use Rattle.kinds.specs.Fields.{comma}
+use Rattle.kinds.specs.Plain.{openWith, openOf}
+use Rattle.kinds.specs.declared.Command.the-variants.{Open}
+use Rattle.kinds.specs.declared.Parsed.the-variants.{Read, Syntax}
 
 module _ (op pwd till : List ℕ) where
   pub no-op : fieldOf 1 op ≡ NotOne → Syntax ≡ openWith op pwd till

@@ -4,12 +4,12 @@ use Prim.Native.Nat.{_+_, _-_}
 use native.Mathlib.Omega.{arith}
 use denote.Ref.{now}
 use Rattle.figures.proofs.Cutting.{cut-length}
-use Rattle.command.proofs.Forms.{found-ne, missed-eq, at-most, front, behind}
-use Rattle.command.specs.Fields.{comma}
-use Rattle.command.proofs.Openings.{no-comma, one-comma, two-commas}
+use Rattle.kinds.proofs.Forms.{found-ne, missed-eq, at-most, front, behind}
+use Rattle.kinds.specs.Fields.{comma}
+use Rattle.kinds.proofs.Openings.{no-comma, one-comma, two-commas}
 use borrow.Author.Needs.{needs}
-use Rattle.command.proofs.plain.open_receipt.Statement.{statement}
-use Rattle.command.proofs.plain.open_receipt.Tie as tie
+use Rattle.kinds.proofs.plain.open_receipt.Statement.{statement}
+use Rattle.kinds.proofs.plain.open_receipt.Tie as tie
 
 find-requires : tie.Need-find-requires
 find-requires c κs = search needs

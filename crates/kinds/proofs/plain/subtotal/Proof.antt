@@ -3,8 +3,8 @@ use denote.Ref.{now}
 use lib.ListN.{length}
 use borrow.Author.Tests.{eq-eqb, ne-eqb, not-true, not-false}
 use borrow.Author.Needs.{needs}
-use Rattle.command.proofs.plain.subtotal.Statement.{statement}
-use Rattle.command.proofs.plain.subtotal.Tie as tie
+use Rattle.kinds.proofs.plain.subtotal.Statement.{statement}
+use Rattle.kinds.proofs.plain.subtotal.Tie as tie
 
 returns : tie.Need-returns
 returns c = rw (ne-eqb (length (now (c .before .before .args .s))) 2 (c .if1 .taken))

@@ -2,8 +2,8 @@
 use Prim.Native.Nat.{ℕ}
 use Rattle.figures.specs.declared.Number.{Number}
 use Rattle.figures.specs.declared.Number.the-variants.{Is, NotOne}
-use Rattle.command.specs.declared.Parsed.{Parsed}
-use Rattle.command.specs.declared.Parsed.the-variants.{Read, Syntax, Unknown}
+use Rattle.kinds.specs.declared.Parsed.{Parsed}
+use Rattle.kinds.specs.declared.Parsed.the-variants.{Read, Syntax, Unknown}
 
 -- document 01's reply numbers: 0 for a command that was read, 1 syntax, 2 unknown command
 abbrev pub numberOf : Parsed → ℕ

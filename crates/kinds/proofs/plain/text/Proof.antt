@@ -1,7 +1,7 @@
 use mathlib.Core.Path.{sym, _∙_}
 use borrow.Author.Needs.{needs}
-use Rattle.command.proofs.plain.text.Statement.{statement}
-use Rattle.command.proofs.plain.text.Tie as tie
+use Rattle.kinds.proofs.plain.text.Statement.{statement}
+use Rattle.kinds.proofs.plain.text.Tie as tie
 
 is-text-requires : tie.Need-is-text-requires
 is-text-requires c κs = search needs

@@ -8,11 +8,11 @@ use Rattle.wire.specs.Bytes.{within}
 use Rattle.figures.specs.Parts.{has, upTo, past}
 use Rattle.figures.specs.Numbers.{fieldOf}
 use Rattle.lines.specs.Texts.{isText}
-use Rattle.command.specs.Fields.{given, comma}
-use Rattle.command.specs.declared.Command.{Command}
-use Rattle.command.specs.declared.Command.the-variants.{PrintText, Open, Subtotal, Sums, Closing}
-use Rattle.command.specs.declared.Parsed.{Parsed}
-use Rattle.command.specs.declared.Parsed.the-variants.{Read, Syntax}
+use Rattle.kinds.specs.Fields.{given, comma}
+use Rattle.kinds.specs.declared.Command.{Command}
+use Rattle.kinds.specs.declared.Command.the-variants.{PrintText, Open, Subtotal, Sums, Closing}
+use Rattle.kinds.specs.declared.Parsed.{Parsed}
+use Rattle.kinds.specs.declared.Parsed.the-variants.{Read, Syntax}
 
 -- "Commands 39, 56, 60, 74 and 97 take no data", "38 takes no data"
 abbrev pub bareOf : Command → List ℕ → Parsed
