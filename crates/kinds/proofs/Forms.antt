@@ -6,26 +6,17 @@ use Prim.Native.Nat.{ℕ, _+_, _-_, _≤_, _<_}
 use native.Mathlib.Omega.{arith}
 use lib.Dec.{ltb}
 use lib.ListN.{length, getD, take, drop}
-use lib.Seq.{take-all}
-use borrow.Author.Tests.{lt-ltb, le-ltb, ltb-false}
+use borrow.Author.Tests.{lt-ltb, le-ltb}
 use Rattle.figures.specs.Parts.{place, has, upTo, past}
 use Rattle.figures.proofs.Cutting.{place-within, to-end}
 use Rattle.kinds.specs.Plain.{sumsOf, closingOf}
 use Rattle.kinds.specs.declared.Parsed.the-variants.{Syntax}
 
--- a list of no byte, and of one
-pub none : (s : List ℕ) → length s ≡ 0 → s ≡ []
-none [] e = refl
-none (x ∷ s) e = absurd (omega arith)
-
+-- a list of one byte
 pub one : (s : List ℕ) → length s ≡ 1 → s ≡ getD s 0 0 ∷ []
 one [] e = absurd (omega arith)
 one (x ∷ []) e = refl
 one (x ∷ y ∷ s) e = absurd (omega arith)
-
-pub some : (s : List ℕ) → (length s ≡ 0 → ⊥) → s ≡ getD s 0 0 ∷ drop 1 s
-some [] e = absurd (e refl)
-some (x ∷ s) e = refl
 
 pub sums-long : (s : List ℕ) → (length s ≡ 0 → ⊥) → (length s ≡ 1 → ⊥) → Syntax ≡ sumsOf s
 sums-long [] e f = absurd (e refl)
@@ -60,7 +51,3 @@ module _ (b : ℕ) (s : List ℕ) (at : ℕ) (e : at ≡ place b s) where
 
   pub behind : take (length s - (at + 1)) (drop (at + 1) s) ≡ past b s
   behind = to-end (at + 1) s ∙ ap (λ n. drop (n + 1) s) e
-
-  -- with none, all of it stands before
-  pub all : has b s ≡ false → upTo b s ≡ s
-  all h = take-all (place b s) s (ltb-false (place b s) (length s) h)

@@ -16,6 +16,7 @@ use Rattle.wire.specs.Places.{is, none, behindData, shortest, longest, front, e
 use Rattle.wire.specs.declared.Kind.{Kind}
 use Rattle.wire.specs.declared.Kind.the-variants.{Command, Answer}
 use Rattle.wire.specs.declared.Sort.the-variants.{Mark, Data, Status}
+use Rattle.text.proofs.Laws.{empty}
 use Rattle.wire.proofs.Suits.{both, length-front}
 use Rattle.reader.specs.Reading.{message, suits, atLast, grown}
 use Rattle.reader.proofs.Passing.{Pass, done, more, pass-short, pass-snoc}
@@ -82,10 +83,6 @@ between Command x y n r hx hy s l =
       };
       is = ap (λ z. x ∷ y ∷ z ++ 0x05 ∷ []) (s .is ∙ ap (λ z. s .left ++ z) none-left ∙ append-nil (s .left));
     }
-  where
-    empty : (xs : List ℕ) → length xs ≡ 0 → xs ≡ []
-    empty [] e = refl
-    empty (z ∷ zs) e = absurd (omega arith)
 between Answer x y n r hx hy s l = go (s .right) (s .second) refl (omega (arith, ap length (s .is), length-append (s .left) (s .right), s .size, length-replicate n (mayStand Data)))
   where
     go : (rs : List ℕ) → Pass (behindData Answer) rs → s .right ≡ rs → length rs ≡ 7 → Said Answer n (x ∷ y ∷ r ++ 0x05 ∷ [])

@@ -15,6 +15,7 @@ use Rattle.wire.specs.Replies.{room}
 use Rattle.wire.specs.declared.Kind.{Kind}
 use Rattle.wire.specs.declared.Kind.the-variants.{Command, Answer}
 use Rattle.wire.specs.declared.Sort.the-variants.{Mark, Data, Status}
+use Rattle.text.proofs.Laws.{empty}
 use Rattle.wire.proofs.Suits.{both, length-front, behind-small}
 use Rattle.wire.proofs.Building.{bcc-mod, length-enclosed}
 use Rattle.reader.specs.Reading.{Place, outside, inside, Event, nothing, heard, read, startsAnew, message, Run, run}
@@ -51,10 +52,6 @@ pub sendable-parts : (k : Kind) (m : Message) → Parts k m → sendable k m ≡
 sendable-parts k m h =
     rw (h .seq, h .code, le-leb (length (m .content)) 200 (h .few), h .content, eq-eqb (length (m .status)) (statuses k) (h .size), h .status)
 
-no-more : (xs : List ℕ) → length xs ≡ 0 → [] ≡ xs
-no-more [] e = refl
-no-more (x ∷ xs) e = absurd (omega arith)
-
 -- the bytes between CMD and 05h pass their tests
 pass-behind : (k : Kind) (m : Message) → Parts k m → Pass (replicate (length (m .content)) (mayStand Data) ++ behindData k) (inner k m)
 pass-behind Command m h = rw append-nil (pass-every (mayStand Data) (m .content) (h .content))
@@ -79,7 +76,7 @@ content-back Answer m rest =
     rw (append-assoc, append-assoc) (take-at (m .content) (0x04 ∷ (m .status ++ 0x05 ∷ rest)) (length (m .content)) refl)
 
 status-back : (k : Kind) (m : Message) (rest : List ℕ) → Parts k m → take (statuses k) (drop (1 + length (m .content)) ((inner k m ++ 0x05 ∷ []) ++ rest)) ≡ m .status
-status-back Command m rest h = no-more (m .status) (h .size)
+status-back Command m rest h = sym (empty (m .status) (h .size))
 status-back Answer m rest h =
     let regroup : (((m .content ++ 0x04 ∷ m .status) ++ 0x05 ∷ []) ++ rest) ≡ (m .content ++ 0x04 ∷ []) ++ (m .status ++ 0x05 ∷ rest) = simp append-assoc in
     let front : length (m .content ++ 0x04 ∷ []) ≡ 1 + length (m .content) = length-append (m .content) (0x04 ∷ []) ∙ omega arith in

@@ -11,6 +11,11 @@ use lib.Seq.{sets, set-out, set-comm, take-all, drop-cons, drop-set-lt, sets-eq,
 use Rattle.text.specs.Digits.{digits, number}
 
 module _ {A : Type 0} where
+  -- a list of no element
+  pub empty : (l : List A) → length l ≡ 0 → l ≡ []
+  empty [] e = refl
+  empty (x ∷ l) e = absurd (omega arith)
+
   -- one run after another is the longer run
   pub sets-append : (l : List A) (i : ℕ) (xs ys : List A) → sets l i (xs ++ ys) ≡ sets (sets l i xs) (i + length xs) ys
   sets-append l i [] ys = rw add-zero

@@ -1,13 +1,14 @@
+use Rattle.text.proofs.Laws.{empty}
 use denote.Ref.{now}
 use lib.ListN.{getD}
 use borrow.Author.Tests.{ne-eqb}
-use Rattle.kinds.proofs.Forms.{none, one, sums-long}
+use Rattle.kinds.proofs.Forms.{one, sums-long}
 use borrow.Author.Needs.{needs}
 use Rattle.kinds.proofs.plain.sums.Statement.{statement}
 use Rattle.kinds.proofs.plain.sums.Tie as tie
 
 returns : tie.Need-returns
-returns c = rw (none (now (c .before .args .s)) (c .if1 .taken))
+returns c = rw (empty (now (c .before .args .s)) (c .if1 .taken))
 
 returns-2 : tie.Need-returns-2
 returns-2 c = sums-long (now (c .before .before .args .s)) (c .before .if1 .left) (c .if2 .taken)
