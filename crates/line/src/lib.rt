@@ -1,0 +1,4 @@
+// The line: what one byte asks of the device.
+pub fn none() -> bool {
+    false
+}
