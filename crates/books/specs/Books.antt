@@ -1,9 +1,18 @@
--- The books of a fresh device: all sums and counters zero, no receipt open.
+-- The books of a fresh device, and books with a part of them changed.
+use Prim.Native.Nat.{ℕ}
+use mathlib.Core.List.{List}
 use lib.ListN.{replicate}
 use Rattle.receipt.specs.Receipts.{emptyReceipt}
+use Rattle.receipt.specs.declared.Receipt.{Receipt}
 use Rattle.books.specs.declared.Books.{Books}
+use Rattle.books.specs.declared.Counters.{Counters}
+use Rattle.books.specs.declared.Drawer.{Drawer}
+use Rattle.books.specs.declared.Memory.{Memory}
+use Rattle.books.specs.declared.Opened.{Opened}
 use Rattle.books.specs.declared.Opened.the-variants.{Nothing}
+use Rattle.books.specs.declared.Registers.{Registers}
 
+-- all sums and counters zero, no receipt open
 abbrev pub freshBooks : Books
 freshBooks =
     record {
@@ -15,3 +24,28 @@ freshBooks =
       counters = record { all = 0; fiscal = 0 };
       memory = record { closings = 0; total = 0 };
     }
+
+module _ (b : Books) where
+  abbrev pub withReceipt : Opened → Receipt → Books
+  withReceipt o r =
+      record { opened = o; receipt = r; day = b .day; registers = b .registers; drawer = b .drawer; counters = b .counters; memory = b .memory }
+
+  abbrev pub withDay : List ℕ → Books
+  withDay sums =
+      record { opened = b .opened; receipt = b .receipt; day = sums; registers = b .registers; drawer = b .drawer; counters = b .counters; memory = b .memory }
+
+  abbrev pub withRegisters : Registers → Books
+  withRegisters r =
+      record { opened = b .opened; receipt = b .receipt; day = b .day; registers = r; drawer = b .drawer; counters = b .counters; memory = b .memory }
+
+  abbrev pub withDrawer : Drawer → Books
+  withDrawer d =
+      record { opened = b .opened; receipt = b .receipt; day = b .day; registers = b .registers; drawer = d; counters = b .counters; memory = b .memory }
+
+  abbrev pub withCounters : Counters → Books
+  withCounters c =
+      record { opened = b .opened; receipt = b .receipt; day = b .day; registers = b .registers; drawer = b .drawer; counters = c; memory = b .memory }
+
+  abbrev pub withMemory : Memory → Books
+  withMemory m =
+      record { opened = b .opened; receipt = b .receipt; day = b .day; registers = b .registers; drawer = b .drawer; counters = b .counters; memory = m }

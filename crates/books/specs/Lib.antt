@@ -1,2 +1,4 @@
 pub mod Rates
+pub mod Groups
 pub mod Books
+pub mod Sound

@@ -1,5 +1,6 @@
 // The books: what the device remembers of receipts, day and drawer, and what each command makes of it (document 01, "Commands").
 pub mod rates;
+pub mod sound;
 
 use receipt::Receipt;
 ghost use mathlib.Core.Path.{_≡_};
