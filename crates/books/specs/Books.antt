@@ -1,5 +1,6 @@
 -- The books of a fresh device, and books with a part of them changed.
 use Prim.Native.Nat.{ℕ}
+use mathlib.Core.Bool.{Bool, true, false}
 use mathlib.Core.List.{List}
 use lib.ListN.{replicate}
 use Rattle.receipt.specs.Receipts.{emptyReceipt}
@@ -7,9 +8,8 @@ use Rattle.receipt.specs.declared.Receipt.{Receipt}
 use Rattle.books.specs.declared.Books.{Books}
 use Rattle.books.specs.declared.Counters.{Counters}
 use Rattle.books.specs.declared.Drawer.{Drawer}
-use Rattle.books.specs.declared.Memory.{Memory}
 use Rattle.books.specs.declared.Opened.{Opened}
-use Rattle.books.specs.declared.Opened.the-variants.{Nothing}
+use Rattle.books.specs.declared.Opened.the-variants.{Nothing, Fiscal, Text}
 use Rattle.books.specs.declared.Registers.{Registers}
 
 -- all sums and counters zero, no receipt open
@@ -24,6 +24,22 @@ freshBooks =
       counters = record { all = 0; fiscal = 0 };
       memory = record { closings = 0; total = 0 };
     }
+
+-- which receipt is open
+abbrev pub fiscalOpen : Opened → Bool
+fiscalOpen Nothing = false
+fiscalOpen Fiscal = true
+fiscalOpen Text = false
+
+abbrev pub textOpen : Opened → Bool
+textOpen Nothing = false
+textOpen Fiscal = false
+textOpen Text = true
+
+abbrev pub anyOpen : Opened → Bool
+anyOpen Nothing = false
+anyOpen Fiscal = true
+anyOpen Text = true
 
 module _ (b : Books) where
   abbrev pub withReceipt : Opened → Receipt → Books
@@ -45,7 +61,3 @@ module _ (b : Books) where
   abbrev pub withCounters : Counters → Books
   withCounters c =
       record { opened = b .opened; receipt = b .receipt; day = b .day; registers = b .registers; drawer = b .drawer; counters = c; memory = b .memory }
-
-  abbrev pub withMemory : Memory → Books
-  withMemory m =
-      record { opened = b .opened; receipt = b .receipt; day = b .day; registers = b .registers; drawer = b .drawer; counters = b .counters; memory = m }

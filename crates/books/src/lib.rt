@@ -1,4 +1,5 @@
 // The books: what the device remembers of receipts, day and drawer, and what each command makes of it (document 01, "Commands").
+pub mod parts;
 pub mod rates;
 pub mod sound;
 

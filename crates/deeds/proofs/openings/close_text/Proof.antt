@@ -1,0 +1,35 @@
+use mathlib.Core.Path.{sym, _∙_}
+use borrow.Author.Tests.{not-true, not-false}
+use Rattle.deeds.proofs.Judging.{closed-3, closed-0}
+use borrow.Author.Needs.{needs}
+use Rattle.deeds.proofs.openings.close_text.Statement.{statement}
+use Rattle.deeds.proofs.openings.close_text.Tie as tie
+
+text-open-requires : tie.Need-text-open-requires
+text-open-requires c κs = search needs
+
+refuse-requires : tie.Need-refuse-requires
+refuse-requires c κs = search needs
+
+returns : tie.Need-returns
+returns c = c .refuse .ensures ∙ closed-3 (c .before .before .before .args .books) (sym (c .before .before .text-open .ensures) ∙ not-true _ (c .before .if1 .taken))
+
+with-receipt-requires : tie.Need-with-receipt-requires
+with-receipt-requires c κs = search needs
+
+finish-requires : tie.Need-finish-requires
+finish-requires c κs = search needs
+
+returns-2 : tie.Need-returns-2
+returns-2 c = rw (c .finish .ensures, c .before .with-receipt .ensures) (closed-0 (c .before .before .before .before .before .args .books) (sym (c .before .before .before .before .text-open .ensures) ∙ not-false _ (c .before .before .before .if1 .left)))
+
+pub close-text-spec : {M : Type 1} → statement M
+close-text-spec =
+    tie.close
+    (tie.spec
+    text-open-requires
+    refuse-requires
+    returns
+    with-receipt-requires
+    finish-requires
+    returns-2)

@@ -1,0 +1,84 @@
+// What each command does to the books (document 01, "Commands").
+pub mod day;
+pub mod openings;
+pub mod sales;
+
+use books::Books;
+use books::Shown;
+use books::sound;
+use kinds::Command;
+ghost use mathlib.Core.Path.{_≡_};
+ghost use mathlib.Core.Bool.{true, _||_};
+ghost use Rattle.books.specs.Sound.{sound};
+ghost use Rattle.deeds.specs.Deeds.{refusedWith, done, deedOf, carriedOut};
+
+// The books afterwards, with the reply number and what the answer shows.
+pub struct Deed {
+    pub number: u64,
+    pub books: Books,
+    pub shown: Shown,
+}
+
+pub fn carry_out(books: Books, command: Command) -> Deed
+    ensures { λ r. ⌜ r ≡ carriedOut books command ⌝ }
+{
+    if !sound::is_sound(books) {
+        return refuse(4, books);
+    }
+    act(books, command)
+}
+
+fn act(books: Books, command: Command) -> Deed
+    requires { ⌜ sound books ≡ true ⌝ }
+    ensures { λ r. ⌜ r ≡ deedOf books command ⌝ }
+{
+    match command {
+        Command::OpenText => openings::open_text(books),
+        Command::CloseText => openings::close_text(books),
+        Command::PrintText => openings::print_text(books),
+        Command::Open {
+            op: _,
+            password,
+            till: _,
+        } => openings::open_fiscal(books, password),
+        Command::Sell(s) => sales::sell(books, s),
+        Command::Subtotal { print: _, show: _ } => sales::subtotal(books),
+        Command::Pay(p) => sales::pay(books, p),
+        Command::Close => sales::close(books),
+        Command::Cancel => sales::cancel(books),
+        Command::Sums { taxes } => day::sums(books, taxes),
+        Command::Closing { clears } => day::closing(books, clears),
+        Command::Drawer(s) => day::serve(books, s),
+        Command::Status => finish(books, Shown::Status),
+        Command::Rates => finish(books, Shown::Rates),
+    }
+}
+
+pub fn refuse(number: u64, books: Books) -> Deed
+    ensures { λ r. ⌜ r ≡ refusedWith number books ⌝ }
+{
+    Deed {
+        number,
+        books,
+        shown: Shown::Nothing,
+    }
+}
+
+pub fn finish(books: Books, shown: Shown) -> Deed
+    ensures { λ r. ⌜ r ≡ done books shown ⌝ }
+{
+    Deed {
+        number: 0,
+        books,
+        shown,
+    }
+}
+
+pub fn either(a: bool, b: bool) -> bool
+    ensures { λ r. ⌜ r ≡ (a || b) ⌝ }
+{
+    if a {
+        return true;
+    }
+    b
+}
