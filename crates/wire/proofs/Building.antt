@@ -8,12 +8,12 @@ use native.Mathlib.Omega.{arith}
 use lib.Dec.{leb}
 use lib.ListN.{length, getD, take, drop, set, length-append, length-drop, drop-of-length-le}
 use lib.Seq.{sets, sets-eq, drop-cons, take-at, drop-at, length-take-le}
-use borrow.Author.Tests.{lt-ltb, le-ltb, lt-leb, leb-true}
+use borrow.Author.Tests.{lt-ltb, le-ltb, lt-leb, le-leb, leb-true}
 use Rattle.text.proofs.Laws.{sets-append, sets-same, sets-over}
 use Rattle.wire.proofs.Suits.{both, &&-true, &&-false}
 use Rattle.wire.specs.Bytes.{mayStand, every}
 use Rattle.wire.specs.Frame.{Message, commandOf, answerOf, total, bcc, hexadecimal, counted, enclosed, frame, sendable, carriable}
-use Rattle.wire.specs.Replies.{room, building}
+use Rattle.wire.specs.Replies.{room, building, sealing}
 use Rattle.wire.specs.declared.Kind.{Kind}
 use Rattle.wire.specs.declared.Kind.the-variants.{Command, Answer}
 use Rattle.wire.specs.declared.Sort.the-variants.{Mark, Data, Status}
@@ -174,3 +174,16 @@ module _ (k : Kind) (l : List ℕ) (m : Message) where
 
   pub can : room k ≤ length l → sendable k m ≡ true → building k l m ≡ record { number = 0; count = length (frame k m); buffer = sets l 0 (frame k m) }
   can h e = rw (le-ltb (length l) (room k) h, e)
+
+-- sealing an answer, a branch of the code each
+module _ (l : List ℕ) (seq code n : ℕ) (status : List ℕ) where
+  pub seal-short : length l < 217 → sealing l seq code n status ≡ record { number = 7; count = 0; buffer = l }
+  seal-short h = rw (lt-ltb (length l) 217 h)
+
+  pub seal-long : 217 ≤ length l → 200 < n → sealing l seq code n status ≡ record { number = 8; count = 0; buffer = l }
+  seal-long h k = rw (le-ltb (length l) 217 h, lt-leb n 200 k)
+
+  pub seal-done : 217 ≤ length l → n ≤ 200
+      → sealing l seq code n status
+      ≡ record { number = 0; count = length (frame Answer (answerOf seq code (take n (drop 4 l)) status)); buffer = sets l 0 (frame Answer (answerOf seq code (take n (drop 4 l)) status)) }
+  seal-done h k = rw (le-ltb (length l) 217 h, le-leb n 200 k)

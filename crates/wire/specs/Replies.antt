@@ -2,10 +2,10 @@
 use Prim.Native.Nat.{ℕ}
 use mathlib.Core.Bool.{cond}
 use mathlib.Core.List.{List}
-use lib.Dec.{ltb}
-use lib.ListN.{length}
+use lib.Dec.{leb, ltb}
+use lib.ListN.{length, take, drop}
 use lib.Seq.{sets}
-use Rattle.wire.specs.Frame.{Message, frame, sendable}
+use Rattle.wire.specs.Frame.{Message, answerOf, frame, sendable}
 use Rattle.wire.specs.declared.Kind.{Kind}
 use Rattle.wire.specs.declared.Kind.the-variants.{Command, Answer}
 use Rattle.wire.specs.declared.Built.{Built}
@@ -34,4 +34,13 @@ abbrev pub building : Kind → List ℕ → Message → Reply
 building k buffer m =
     cond (ltb (length buffer) (room k)) (replyOf Short buffer)
     (cond (sendable k m) (replyOf (Frame (length (frame k m))) (sets buffer 0 (frame k m)))
+    (replyOf Unsendable buffer))
+
+-- an answer around n data bytes that stand in their place, from the buffer's fifth byte on. SEQ and CMD are the command's own, as they came,
+-- data and status the device's: only 7 and the number of data bytes are judged.
+abbrev pub sealing : List ℕ → ℕ → ℕ → ℕ → List ℕ → Reply
+sealing buffer seq code n status =
+    let sealed = frame Answer (answerOf seq code (take n (drop 4 buffer)) status) in
+    cond (ltb (length buffer) (room Answer)) (replyOf Short buffer)
+    (cond (leb n 200) (replyOf (Frame (length sealed)) (sets buffer 0 sealed))
     (replyOf Unsendable buffer))

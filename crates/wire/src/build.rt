@@ -8,7 +8,7 @@ ghost use Prim.Native.Nat.{_+_, _%_, _≤_};
 ghost use lib.ListN.{length, take, drop};
 ghost use lib.Seq.{sets};
 ghost use Rattle.wire.specs.Frame.{commandOf, answerOf, carriable, enclosed, total};
-ghost use Rattle.wire.specs.Replies.{replyOf, building};
+ghost use Rattle.wire.specs.Replies.{replyOf, building, sealing};
 ghost use Rattle.wire.specs.declared.Kind.the-variants.{Command, Answer};
 
 // A command frame at the front of the buffer.
@@ -44,19 +44,12 @@ pub fn build_answer(buf: &mut [u8], seq: u8, code: u8, content: &[u8], status: [
 
 // An answer frame around its n data bytes, which stand in their place already: from the buffer's fifth byte on.
 pub fn seal_answer(buf: &mut [u8], seq: u8, code: u8, n: usize, status: [u8; 6]) -> Built
-    ensures { λ r. ⌜ replyOf r (now (buf .exit)) ≡ building Answer (now (buf .entry)) (answerOf seq code (take n (drop 4 (now (buf .entry)))) status) ⌝ }
+    ensures { λ r. ⌜ replyOf r (now (buf .exit)) ≡ sealing (now (buf .entry)) seq code n status ⌝ }
 {
     if buf.len() < 217 {
         return Built::Short;
     }
     if 200 < n {
-        return Built::Unsendable;
-    }
-    let end = n + 4;
-    if !can_carry(seq, code, &buf[4..end]) {
-        return Built::Unsendable;
-    }
-    if !suit::all_may_stand(Sort::Status, &status) {
         return Built::Unsendable;
     }
     Built::Frame(finish(buf, seq, code, n, status))
