@@ -6,7 +6,7 @@ use mathlib.Core.List.{List, [], _∷_, _++_}
 use lib.Dec.{eqb}
 use Rattle.wire.specs.Frame.{Message}
 use Rattle.wire.specs.declared.Kind.the-variants.{Command}
-use Rattle.reader.specs.Reading.{Place, outside, Event, nothing, brokenFrame, heard, Read, read}
+use Rattle.reader.specs.Reading.{Place, outside, Event, nothing, brokenFrame, heard, read}
 
 -- the whole frame before, with its answer; "A fresh device has no frame before."
 pub data Before : Type 0 where

@@ -1,0 +1,37 @@
+-- What the line's fields and answers say: a byte that asks for nothing, for NAK (5), for the last answer again (6), or a command to carry out.
+use Prim.Native.Nat.{ℕ}
+use mathlib.Core.Bool.{Bool, false, cond, _&&_}
+use mathlib.Core.List.{List}
+use lib.Dec.{eqb}
+use lib.ListN.{length, take}
+use Rattle.wire.specs.declared.Kind.the-variants.{Command}
+use Rattle.reader.specs.Reading.{Event, nothing, brokenFrame, heard, read}
+use Rattle.reader.specs.Fields.{placeOf, readerOf}
+use Rattle.line.specs.Turns.{Before, none, was}
+use Rattle.line.specs.declared.Call.{Call}
+use Rattle.line.specs.declared.Call.the-variants.{Quiet, Nak, Again, Order}
+use Rattle.line.specs.declared.Called.{Called}
+use Rattle.line.specs.declared.Line.{Line}
+use Rattle.line.specs.declared.Previous.{Previous}
+use Rattle.line.specs.declared.Previous.the-variants.{Nothing, Frame}
+
+-- the frame before, with its answer at the front of a lent array
+abbrev pub beforeOf : Previous → List ℕ → Before
+beforeOf Nothing last = none
+beforeOf (Frame seq code count) last = was seq code (take count last)
+
+-- "A whole frame with the SEQ and CMD of the whole frame before it is a repeat, whatever its data"
+abbrev pub isRepeat : Previous → ℕ → ℕ → Bool
+isRepeat Nothing seq code = false
+isRepeat (Frame s c count) seq code = eqb s seq && eqb c code
+
+abbrev pub callOf : Previous → Event → Call
+callOf p nothing = Quiet
+callOf p brokenFrame = Nak
+callOf p (heard m) = cond (isRepeat p (m .seq) (m .code)) Again (Order (m .seq) (m .code) (length (m .content)))
+
+-- one byte heard on the line
+abbrev pub calledOf : Line → List ℕ → ℕ → Called
+calledOf l frame b =
+    let step = read Command (placeOf (l .reader) frame) b in
+    record { line = record { reader = readerOf (step .place); previous = l .previous }; call = callOf (l .previous) (step .event) }
