@@ -1,0 +1,2 @@
+pub mod Taxing
+pub mod Writing
