@@ -73,19 +73,19 @@ digits-plain (suc width) n =
 
 data Plain : List (List ℕ) → Type 0 where
   none : Plain []
-  one : {f : List ℕ} {fs : List (List ℕ)} → every (mayStand Data) f ≡ true → Plain fs → Plain (f ∷ fs)
+  one : (f : List ℕ) {fs : List (List ℕ)} → every (mayStand Data) f ≡ true → Plain fs → Plain (f ∷ fs)
 
 each-plain : {fs : List (List ℕ)} → Plain fs → every (mayStand Data) (commaEach fs) ≡ true
 each-plain none = refl
-each-plain (one {f} {fs} p q) = every-append (mayStand Data) f (commaEach fs) p (each-plain q)
+each-plain (one f {fs} p q) = every-append (mayStand Data) f (commaEach fs) p (each-plain q)
 
 commas-plain : {fs : List (List ℕ)} → Plain fs → every (mayStand Data) (commas fs) ≡ true
 commas-plain none = refl
-commas-plain (one {f} {fs} p q) = every-append (mayStand Data) f (commaEach fs) p (each-plain q)
+commas-plain (one f {fs} p q) = every-append (mayStand Data) f (commaEach fs) p (each-plain q)
 
 sums-plain : (width : ℕ) (sums : List ℕ) → Plain (map (digits width) sums)
 sums-plain width [] = none
-sums-plain width (n ∷ sums) = one (digits-plain width n) (sums-plain width sums)
+sums-plain width (n ∷ sums) = one (digits width n) (digits-plain width n) (sums-plain width sums)
 
 -- the six status bytes, each from 80h to FFh
 data High : List ℕ → Type 0 where
@@ -159,7 +159,11 @@ module _ (day : List ℕ) (b : Books) where
   shown-stands (shown.Tendered full left) = every-cons (mayStand Data) (letter full) (digits 10 left) (letter-plain full) (digits-plain 10 left)
   shown-stands shown.DaySums = commas-plain (sums-plain 12 (b .day))
   shown-stands shown.Taxes = commas-plain (sums-plain 12 (taxesFrom 0 (b .day)))
-  shown-stands shown.Closure = commas-plain (one (digits-plain 4 (b .memory .closings)) (one (digits-plain 17 (b .memory .total)) (sums-plain 12 day)))
-  shown-stands shown.InDrawer = commas-plain (one {f = 0x50 ∷ []} refl (sums-plain 12 (b .drawer .cash ∷ b .drawer .put ∷ b .drawer .taken ∷ [])))
+  shown-stands shown.Closure =
+      commas-plain
+      (one (digits 4 (b .memory .closings)) (digits-plain 4 (b .memory .closings))
+      (one (digits 17 (b .memory .total)) (digits-plain 17 (b .memory .total))
+      (sums-plain 12 day)))
+  shown-stands shown.InDrawer = commas-plain (one (0x50 ∷ []) refl (sums-plain 12 (b .drawer .cash ∷ b .drawer .put ∷ b .drawer .taken ∷ [])))
   shown-stands shown.Status = high-pass (mayStand Data) (λ x low high. plain x (omega arith) high) (status-high 0 b)
   shown-stands shown.Rates = rw rates-shown
