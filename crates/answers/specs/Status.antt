@@ -6,21 +6,11 @@ use lib.Dec.{leb, eqb}
 use Rattle.books.specs.Rates.{capacity}
 use Rattle.books.specs.declared.Books.{Books}
 use Rattle.books.specs.declared.Opened.{Opened}
-use Rattle.books.specs.declared.Opened.the-variants.{Nothing, Fiscal, Text}
+use Rattle.books.specs.Books.{fiscalOpen, textOpen}
 
 -- a bit by its value, where it is set
 abbrev pub bit : ℕ → Bool → ℕ
 bit value set = cond set value 0
-
-abbrev pub fiscalOpen : Opened → Bool
-fiscalOpen Nothing = false
-fiscalOpen Fiscal = true
-fiscalOpen Text = false
-
-abbrev pub textOpen : Opened → Bool
-textOpen Nothing = false
-textOpen Fiscal = false
-textOpen Text = true
 
 -- "This command's verdict: 0.0, 0.1, 1.0, 1.1; 0.5 is their or": 1 syntax 0.0, 2 unknown 0.1, 3 not permitted 1.1, 4 overflow 1.0 and 1.1
 abbrev pub verdict0 : ℕ → ℕ

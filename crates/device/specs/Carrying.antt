@@ -1,0 +1,31 @@
+-- Document 01: a whole frame carried out. "answered by the rules below, refusals 1 to 4 included".
+use Prim.Native.Nat.{ℕ}
+use mathlib.Core.List.{List}
+use Rattle.wire.specs.Frame.{Message, answerOf, frame}
+use Rattle.wire.specs.declared.Kind.the-variants.{Answer}
+use Rattle.kinds.specs.declared.Parsed.{Parsed}
+use Rattle.kinds.specs.declared.Parsed.the-variants.{Read, Syntax, Unknown}
+use Rattle.command.specs.Commands.{parsedOf}
+use Rattle.books.specs.declared.Books.{Books}
+use Rattle.deeds.specs.Deeds.{refusedWith, carriedOut}
+use Rattle.deeds.specs.declared.Deed.{Deed}
+use Rattle.answers.specs.Contents.{contentOf}
+use Rattle.answers.specs.Status.{statusOf}
+use Rattle.line.specs.Turns.{Carried}
+
+-- "Order: .. 2, 1, 3, 4": unknown command and syntax are told before the books are asked
+abbrev pub deedFor : Books → Parsed → Deed
+deedFor b (Read c) = carriedOut b c
+deedFor b Syntax = refusedWith 1 b
+deedFor b Unknown = refusedWith 2 b
+
+-- the answer to a command, with its SEQ and CMD: the data of a command done, or none, and the status after it
+abbrev pub answerTo : Books → ℕ → ℕ → Deed → Message
+answerTo b seq code d = answerOf seq code (contentOf (d .shown) (b .day) (d .books)) (statusOf (d .number) (d .books))
+
+abbrev pub carriedAs : Books → ℕ → ℕ → Deed → Carried Books
+carriedAs b seq code d = record { number = d .number; books = d .books; answer = frame Answer (answerTo b seq code d) }
+
+-- a command carried out on the books
+abbrev pub carry : Books → Message → Carried Books
+carry b m = carriedAs b (m .seq) (m .code) (deedFor b (parsedOf (m .code) (m .content)))

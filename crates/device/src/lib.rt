@@ -1,0 +1,4 @@
+// The device.
+pub fn none() -> bool {
+    false
+}
