@@ -12,9 +12,10 @@ use Rattle.wire.specs.Bytes.{within, mayStand, mayStandInData, every}
 use Rattle.wire.specs.Frame.{Message, total, bcc, hexadecimal, counted, frame, sendable}
 use Rattle.wire.specs.declared.Kind.the-variants.{Command}
 use Rattle.wire.specs.declared.Sort.the-variants.{Mark, Data}
+use Rattle.text.proofs.Laws.{empty}
 use Rattle.wire.proofs.Suits.{both}
 use Rattle.reader.proofs.RoundTrip.{Parts, parts}
-use Rattle.delivery.proofs.Lists.{Free, free-join, free-test, free-every, only-last, cut-same, total-join, OneOff, InFirst, InSecond, off-back, off-length, off-total, off-same, off-parts}
+use Rattle.delivery.proofs.Lists.{Free, free-join, free-test, free-every, only-last, cut-same, total-join, OneOff, InFirst, InSecond, off-back, off-length, off-total, off-same, off-parts, off-some}
 
 -- LEN to 05h, their BCC, and all that stands behind 01h
 abbrev pub core : Message → List ℕ
@@ -162,3 +163,37 @@ module _ (m n : Message) (cm : sendable Command m ≡ true) (cn : sendable Comma
       in-check c =
           let cut = cut-same (core n) (check n ++ 0x03 ∷ []) (core m) (c .other) (sym size) (sym (append-assoc (core n) (check n) (0x03 ∷ [])) ∙ c .is) in
           off-same (c .off) (ap (λ z. bcc (total z) ++ 0x03 ∷ []) (sym (cut .0)) ∙ cut .1)
+
+  -- one whose byte was replaced does not begin with one
+  pub no-damaged : (g w : List ℕ) → OneOff (body m) g → g ≡ body n ++ w → ⊥
+  no-damaged g w d e = ⊎-elim front-off behind-off (off-parts (body n) w (off-back d) e)
+    where
+      exact : w ≡ [] → ⊥
+      exact none = no-neighbour (subst (OneOff (body m)) (e ∙ ap (λ z. body n ++ z) none ∙ append-nil (body n)) d)
+
+      behind-off : InSecond (body n) w (body m) → ⊥
+      behind-off c =
+          let none = no-window [] (c .other) (c .is) .1 in
+          omega (arith, off-some (c .off), off-length (c .off), ap length none)
+
+      before-03 : (v : List ℕ) → body m ≡ v ++ w → InFirst (core n ++ check n) (0x03 ∷ []) v → ⊥
+      before-03 v is c =
+          exact (ends m cm (c .other) w (is ∙ ap (λ z. z ++ w) (c .is) ∙ append-assoc (c .other) (0x03 ∷ []) w))
+
+      at-03 : (v : List ℕ) → body m ≡ v ++ w → InSecond (core n ++ check n) (0x03 ∷ []) v → ⊥
+      at-03 v is c =
+          let first : length (m .content) + 4 + 0x20 ≡ length (n .content) + 4 + 0x20 = head-eq-of-cons-eq (is ∙ ap (λ z. z ++ w) (c .is)) in
+          let sizes = ap length is ∙ length-append v w in
+          let same = ap length (c .is) ∙ length-append (core n ++ check n) (c .other) in
+          exact (empty w (omega (arith, length-body m cm, length-body n cn, length-append (core n ++ check n) (0x03 ∷ []), off-length (c .off))))
+
+      front-off : InFirst (body n) w (body m) → ⊥
+      front-off c = ⊎-elim (before-03 (c .other) (c .is)) (at-03 (c .other) (c .is)) (off-parts (core n ++ check n) (0x03 ∷ []) (c .off) refl)
+
+-- nor does one with a byte in front
+pub no-longer : (m n : Message) → sendable Command m ≡ true → sendable Command n ≡ true → (x : ℕ) (w : List ℕ) → x ∷ body m ≡ body n ++ w → ⊥
+no-longer m n cm cn x w e =
+    let rest : List ℕ = n .seq ∷ n .code ∷ n .content ++ 0x05 ∷ [] in
+    let seam : body m ≡ (rest ++ check n) ++ 0x03 ∷ w = tail-eq-of-cons-eq e ∙ append-assoc (rest ++ check n) (0x03 ∷ []) w in
+    let none : w ≡ [] = ends m cm (rest ++ check n) w seam in
+    cons≢nil (no-suffix n m cn cm (x ∷ []) (sym (e ∙ ap (λ z. body n ++ z) none ∙ append-nil (body n))))

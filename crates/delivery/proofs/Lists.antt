@@ -130,3 +130,16 @@ around (here {x} {y} {zs} n) = record { left = []; right = zs; old = x; new = y;
 around (later {z} {xs} {ys} d) =
     let r = around d in
     record { left = z ∷ r .left; right = r .right; old = r .old; new = r .new; f-is = ap (λ w. z ∷ w) (r .f-is); g-is = ap (λ w. z ∷ w) (r .g-is) }
+
+-- two lists of one byte
+pub off-one : (x : ℕ) {f g : List ℕ} → OneOff f g → f ≡ x ∷ [] → (y : ℕ) × (g ≡ y ∷ []) × (x ≡ y → ⊥)
+off-one x (here {x = u} {y} {zs} n) e = (y, ap (λ z. y ∷ z) (tail-eq-of-cons-eq e), λ q. n (head-eq-of-cons-eq e ∙ q))
+off-one x (later {z} {xs} {ys} d) e = absurd (off-none d (tail-eq-of-cons-eq e))
+  where
+    off-none : {f g : List ℕ} → OneOff f g → f ≡ [] → ⊥
+    off-none (here n) e = cons≢nil e
+    off-none (later d) e = cons≢nil e
+
+pub off-some : {f g : List ℕ} → OneOff f g → 0 < length f
+off-some (here n) = omega arith
+off-some (later d) = omega arith
