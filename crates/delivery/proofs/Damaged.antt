@@ -17,13 +17,18 @@ use Rattle.delivery.proofs.Lists.{Free, free-join, free-left, free-righ
 use Rattle.delivery.proofs.Bodies.{core, check, body, no-01, no-window, no-damaged, no-longer}
 use Rattle.delivery.proofs.Hearing.{Silent, NoneHeard, silent-join, silent-start, skipped, place-snoc, none-heard, after-03, Between, behind-last}
 
-last-same : {A : Type 0} (xs ys : List A) (a b : A) → xs ++ a ∷ [] ≡ ys ++ b ∷ [] → a ≡ b
-last-same [] [] a b e = head-eq-of-cons-eq e
-last-same [] (y ∷ []) a b e = absurd (nil≢cons (tail-eq-of-cons-eq e))
-last-same [] (y ∷ z ∷ ys) a b e = absurd (nil≢cons (tail-eq-of-cons-eq e))
-last-same (x ∷ []) [] a b e = absurd (cons≢nil (tail-eq-of-cons-eq e))
-last-same (x ∷ z ∷ xs) [] a b e = absurd (cons≢nil (tail-eq-of-cons-eq e))
-last-same (x ∷ xs) (y ∷ ys) a b e = last-same xs ys a b (tail-eq-of-cons-eq e)
+-- two lists with a last element
+pub snoc-same : {A : Type 0} (xs ys : List A) (a b : A) → xs ++ a ∷ [] ≡ ys ++ b ∷ [] → (xs ≡ ys) × (a ≡ b)
+snoc-same [] [] a b e = (refl, head-eq-of-cons-eq e)
+snoc-same [] (y ∷ []) a b e = absurd (nil≢cons (tail-eq-of-cons-eq e))
+snoc-same [] (y ∷ z ∷ ys) a b e = absurd (nil≢cons (tail-eq-of-cons-eq e))
+snoc-same (x ∷ []) [] a b e = absurd (cons≢nil (tail-eq-of-cons-eq e))
+snoc-same (x ∷ z ∷ xs) [] a b e = absurd (cons≢nil (tail-eq-of-cons-eq e))
+snoc-same (x ∷ xs) (y ∷ ys) a b e =
+    let rest = snoc-same xs ys a b (tail-eq-of-cons-eq e) in
+    let head : x ≡ y = head-eq-of-cons-eq e in
+    let tail : xs ≡ ys = rest .0 in
+    (cc, rest .1)
 
 -- nothing heard, and a place between two tries
 abbrev pub Lost : Place → List ℕ → Type 0
@@ -34,13 +39,14 @@ ends-outside : (p : Place) (xs : List ℕ) → run Command p (xs ++ 0x03 ∷ [])
 ends-outside p xs = place-snoc p xs 0x03 ∙ after-03 (run Command p xs .place)
 
 module _ (m : Message) (can : sendable Command m ≡ true) where
-  abbrev start : List ℕ
+  abbrev pub start : List ℕ
   start = core m ++ check m
 
-  -- 03h behind all the others is heard as the message
-  heard-last : read Command (run Command (inside 0 []) start .place) 0x03 .event ≡ heard m
+  -- all the others come in silence, and 03h behind them is heard as the message
+  pub heard-last : (run Command (inside 0 []) start .events ≡ replicate (length (m .content) + 8) nothing)
+      × (read Command (run Command (inside 0 []) start .place) 0x03 .event ≡ heard m)
   heard-last =
-      last-same (run Command (inside 0 []) start .events) (replicate (length (m .content) + 8) nothing) _ _
+      snoc-same (run Command (inside 0 []) start .events) (replicate (length (m .content) + 8) nothing) _ _
       (sym (ap (λ (r : Run). r .events) (run-append Command (inside 0 []) start (0x03 ∷ [])))
       ∙ tail-eq-of-cons-eq (ap (λ (r : Run). r .events) (read-what-was-built Command m can outside)))
 
@@ -58,7 +64,7 @@ module _ (m : Message) (can : sendable Command m ≡ true) where
             let last = off-one 0x03 (c .off) refl in
             let place : run Command (inside 0 []) g .place ≡ read Command (run Command (inside 0 []) start .place) (last .0) .place =
             ap (λ z. run Command (inside 0 []) z .place) (c .is ∙ ap (λ z. start ++ z) (last .1)) ∙ place-snoc (inside 0 []) start (last .0) in
-            subst Between (sym place) (behind-last (run Command (inside 0 []) start .place) m heard-last (last .0))
+            subst Between (sym place) (behind-last (run Command (inside 0 []) start .place) m (heard-last .1) (last .0))
 
     abbrev cut : Around (body m) g
     cut = around d

@@ -2,3 +2,4 @@ pub mod Lists
 pub mod Bodies
 pub mod Hearing
 pub mod Damaged
+pub mod Sessions
