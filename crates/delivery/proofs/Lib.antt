@@ -3,3 +3,4 @@ pub mod Bodies
 pub mod Hearing
 pub mod Damaged
 pub mod Sessions
+pub mod Delivered
