@@ -85,11 +85,16 @@ module _ (m : Message) (can : sendable Command m ≡ true) where
   -- a byte that may not stand in data and is no digit, before 03h
   free : (v : ℕ) → mayStand Mark v ≡ false → mayStand Data v ≡ false → v < 5 → Free v (core m ++ check m)
   free v mark data' low =
-      free-join v (core m) (check m)
-      (λ e. omega arith,
-      (free-test v (mayStand Mark) mark (m .seq) (h .seq),
-      (free-test v (mayStand Mark) mark (m .code) (h .code),
-      free-join v (m .content) (0x05 ∷ []) (free-every v (mayStand Data) data' (m .content) (h .content)) (λ e. omega arith, tt))))
+      free-join v (core m) (check m) (
+        λ e. omega arith,
+        (
+          free-test v (mayStand Mark) mark (m .seq) (h .seq),
+          (
+            free-test v (mayStand Mark) mark (m .code) (h .code),
+            free-join v (m .content) (0x05 ∷ []) (free-every v (mayStand Data) data' (m .content) (h .content)) (λ e. omega arith, tt),
+          ),
+        ),
+      )
       (λ e. omega arith, (λ e. omega arith, (λ e. omega arith, (λ e. omega arith, tt))))
 
   pub no-01 : Free 0x01 (body m)

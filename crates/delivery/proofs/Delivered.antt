@@ -43,9 +43,9 @@ module _ {B : Type 0} (carry : B → Message → Carried B) where
         place = o .place;
         between = o .between;
         carried = ap (λ (z : Session B). z .carried) parts
-          ∙ ap (λ c. c ++ session carry (session carry s (arriving sent a) .state) (triesArriving sent rest) .carried) ec
-          ∙ ap (λ (z : State B). ms ++ session carry z (triesArriving sent rest) .carried) es
-          ∙ ap (λ c. ms ++ c) (o .carried);
+            ∙ ap (λ c. c ++ session carry (session carry s (arriving sent a) .state) (triesArriving sent rest) .carried) ec
+            ∙ ap (λ (z : State B). ms ++ session carry z (triesArriving sent rest) .carried) es
+            ∙ ap (λ c. ms ++ c) (o .carried);
         state = ap (λ (z : Session B). z .state) parts ∙ ap (λ (z : State B). session carry z (triesArriving sent rest) .state) es ∙ o .state;
         answered = (given, subst (λ (z : State B). TriesAnswered carry z sent answer rest) (sym es) (o .answered));
       }
@@ -152,9 +152,9 @@ module _ {B : Type 0} (carry : B → Message → Carried B) where
       let parts = session-append carry (device p before books) bytes (allArriving cs) in
       record {
         carried = ap (λ (z : Session B). z .carried) parts
-          ∙ ap (λ l. l ++ session carry (session carry (device p before books) bytes .state) (allArriving cs) .carried) (o .carried)
-          ∙ ap (λ (z : State B). m ∷ session carry z (allArriving cs) .carried) (o .state)
-          ∙ ap (λ l. m ∷ l) (rest .carried);
+            ∙ ap (λ l. l ++ session carry (session carry (device p before books) bytes .state) (allArriving cs) .carried) (o .carried)
+            ∙ ap (λ (z : State B). m ∷ session carry z (allArriving cs) .carried) (o .state)
+            ∙ ap (λ l. m ∷ l) (rest .carried);
         books-after = ap (λ (z : Session B). z .state .books) parts ∙ ap (λ (z : State B). session carry z (allArriving cs) .state .books) (o .state) ∙ rest .books-after;
         answered = (o .answered, subst (λ (z : State B). AllAnswered carry z (carry books m .books) cs) (sym (o .state)) (rest .answered));
       }

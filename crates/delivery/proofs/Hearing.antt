@@ -66,10 +66,11 @@ module _ (bs : List ℕ) (clean : Free 0x01 bs) (never : (n : Message) (w : List
 
   none-from : (rest pre : List ℕ) → bs ≡ pre ++ rest → NoneHeard (run Command (run Command (inside 0 []) pre .place) rest .events)
   none-from [] pre e = tt
-  none-from (b ∷ rest) pre e =
-      (none-here pre b rest e,
-      subst (λ p. NoneHeard (run Command p rest .events)) (place-snoc (inside 0 []) pre b)
-      (none-from rest (pre ++ b ∷ []) (e ∙ sym (append-assoc pre (b ∷ []) rest))))
+  none-from (b ∷ rest) pre e = (
+    none-here pre b rest e,
+    subst (λ p. NoneHeard (run Command p rest .events)) (place-snoc (inside 0 []) pre b)
+        (none-from rest (pre ++ b ∷ []) (e ∙ sym (append-assoc pre (b ∷ []) rest))),
+  )
 
   pub none-heard : NoneHeard (run Command (inside 0 []) bs .events)
   none-heard = none-from bs [] refl

@@ -69,7 +69,7 @@ module _ {B : Type 0} (carry : B → Message → Carried B) where
       record {
         carried = ap (λ c. c ++ session carry (t .state) bs .carried) (one .0) ∙ ap (λ (z : State B). session carry z bs .carried) (one .2) ∙ rest .carried;
         naks = every-join (is 0x15) (t .gives) (session carry (t .state) bs .gives) (one .1)
-          (subst (λ (z : State B). every (is 0x15) (session carry z bs .gives) ≡ true) (sym (one .2)) (rest .naks));
+            (subst (λ (z : State B). every (is 0x15) (session carry z bs .gives) ≡ true) (sym (one .2)) (rest .naks));
         state = ap (λ (z : State B). session carry z bs .state) (one .2) ∙ rest .state;
       }
 
