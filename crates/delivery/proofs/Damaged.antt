@@ -1,7 +1,7 @@
 -- A damaged try: nothing is heard of it, and behind it reading is outside or directly behind 01h.
 use mathlib.Core.Path.{_≡_, refl, sym, ap, _∙_, subst}
 use mathlib.Core.Bool.{Bool, true, false}
-use mathlib.Core.Logic.{_⊎_, ⊎-elim, inl, inr}
+use mathlib.Core.Logic.{_⊎_, ⊎-elim, inl}
 use mathlib.Core.List.{List, [], _∷_, _++_, append-assoc, nil≢cons, cons≢nil, head-eq-of-cons-eq, tail-eq-of-cons-eq}
 use Prim.Native.Nat.{ℕ, _+_}
 use native.Mathlib.Omega.{arith}
@@ -10,12 +10,12 @@ use lib.ListN.{length, replicate, length-append}
 use borrow.Author.Tests.{eqb-true, eqb-false}
 use Rattle.wire.specs.Frame.{Message, frame, sendable}
 use Rattle.wire.specs.declared.Kind.the-variants.{Command}
-use Rattle.reader.specs.Reading.{Place, outside, inside, Event, nothing, heard, read, startsAnew, Run, run}
+use Rattle.reader.specs.Reading.{Place, outside, inside, nothing, heard, read, startsAnew, Run, run}
 use Rattle.reader.proofs.Walking.{run-append}
 use Rattle.reader.proofs.RoundTrip.{read-what-was-built}
 use Rattle.delivery.proofs.Lists.{Free, free-join, free-left, free-right, OneOff, InFirst, InSecond, off-parts, off-one, Around, around}
 use Rattle.delivery.proofs.Bodies.{core, check, body, no-01, no-window, no-damaged, no-longer}
-use Rattle.delivery.proofs.Hearing.{Silent, NoneHeard, silent-join, silent-start, skipped, place-snoc, none-heard, after-03, Between, behind-last}
+use Rattle.delivery.proofs.Hearing.{NoneHeard, silent-join, silent-start, skipped, place-snoc, none-heard, after-03, Between, behind-last}
 
 -- two lists with a last element
 pub snoc-same : {A : Type 0} (xs ys : List A) (a b : A) → xs ++ a ∷ [] ≡ ys ++ b ∷ [] → (xs ≡ ys) × (a ≡ b)

@@ -1,7 +1,7 @@
 -- The theorem of demand 3: the list that was sent is the list that is carried out, each command once and in order.
 use mathlib.Core.Path.{_≡_, refl, sym, ap, _∙_, subst}
-use mathlib.Core.Bool.{Bool, true, false, cond, not, _&&_, _||_, false≢true}
-use mathlib.Core.Logic.{inl, inr}
+use mathlib.Core.Bool.{true, false, cond, not, _&&_, false≢true}
+use mathlib.Core.Logic.{inl}
 use mathlib.Core.List.{List, [], _∷_, _++_}
 use Prim.Native.Nat.{ℕ}
 use lib.Dec.{ltb, eqb}
@@ -10,9 +10,9 @@ use borrow.Author.Tests.{ltb-true, eqb-false, eq-eqb, not-true}
 use Rattle.wire.specs.Frame.{Message, frame, sendable}
 use Rattle.wire.specs.declared.Kind.the-variants.{Command}
 use Rattle.wire.proofs.Suits.{both}
-use Rattle.reader.specs.Reading.{Place, outside, run}
+use Rattle.reader.specs.Reading.{Place, outside}
 use Rattle.line.specs.Turns.{Before, none, was, State, Carried, Turn, Session, switchedOn, repeats, onWhole, session}
-use Rattle.delivery.specs.Delivery.{Arrival, whole, replaced, isWhole, mayArrive, arriving, Sent, all, any, tried, differ, differsFrom, delivery, commands, triesArriving, allArriving, Answered, carryAll, TriesAnswered, AllAnswered}
+use Rattle.delivery.specs.Delivery.{Arrival, whole, replaced, isWhole, mayArrive, arriving, Sent, all, any, tried, differsFrom, delivery, commands, triesArriving, allArriving, Answered, carryAll, TriesAnswered, AllAnswered}
 use Rattle.delivery.proofs.Lists.{OneOff, off-set}
 use Rattle.delivery.proofs.Hearing.{Between, between-start}
 use Rattle.delivery.proofs.Damaged.{lost}

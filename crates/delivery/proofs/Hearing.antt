@@ -2,19 +2,19 @@
 use mathlib.Core.Path.{_≡_, refl, sym, ap, _∙_, subst}
 use mathlib.Core.Bool.{Bool, true, false, cond, false≢true}
 use mathlib.Core.Logic.{_⊎_, ⊎-elim, inl, inr}
-use mathlib.Core.List.{List, [], _∷_, _++_, map, append-assoc, nil≢cons, cons≢nil, head-eq-of-cons-eq, tail-eq-of-cons-eq}
+use mathlib.Core.List.{List, [], _∷_, _++_, map, append-assoc}
 use Prim.Native.Nat.{ℕ, zero, suc, _+_, _/_}
 use native.Mathlib.Omega.{arith}
 use lib.Dec.{eqb}
 use lib.ListN.{length, getD, replicate, length-append}
-use borrow.Author.Tests.{eqb-true, eqb-false, eq-eqb, ne-eqb}
+use borrow.Author.Tests.{eq-eqb, ne-eqb}
 use Rattle.wire.specs.Bytes.{mayStand}
 use Rattle.wire.specs.Frame.{Message, bcc, hexadecimal, frame, sendable}
-use Rattle.wire.specs.Places.{is, none, front, ending, dataCount}
+use Rattle.wire.specs.Places.{is, none, front, dataCount}
 use Rattle.wire.specs.declared.Kind.the-variants.{Command}
-use Rattle.wire.specs.declared.Sort.the-variants.{Mark, Data}
+use Rattle.wire.specs.declared.Sort.the-variants.{Data}
 use Rattle.reader.specs.Reading.{Place, outside, inside, Event, nothing, brokenFrame, heard, Read, read, readOther, startsAnew, message, suits, atLast, Run, run}
-use Rattle.reader.proofs.Steps.{reads-broken, reads-more, reads-whole, read-other}
+use Rattle.reader.proofs.Steps.{reads-broken, reads-whole, read-other}
 use Rattle.reader.proofs.Walking.{run-append}
 use Rattle.reader.proofs.History.{built-is-all-that-is-read}
 use Rattle.delivery.proofs.Lists.{Free, free-left, only-first}

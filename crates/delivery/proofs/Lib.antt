@@ -4,3 +4,4 @@ pub mod Hearing
 pub mod Damaged
 pub mod Sessions
 pub mod Delivered
+pub mod Examples

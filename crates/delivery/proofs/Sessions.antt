@@ -1,7 +1,7 @@
 -- What the device makes of a run of bytes: silence, a broken frame, a whole try.
 use mathlib.Core.Path.{_≡_, refl, sym, ap, _∙_, subst}
-use mathlib.Core.Bool.{Bool, true, false}
-use mathlib.Core.List.{List, [], _∷_, _++_, append-assoc, append-nil, nil≢cons, cons≢nil, head-eq-of-cons-eq, tail-eq-of-cons-eq}
+use mathlib.Core.Bool.{Bool, true}
+use mathlib.Core.List.{List, [], _∷_, _++_, append-assoc, append-nil, cons≢nil, head-eq-of-cons-eq, tail-eq-of-cons-eq}
 use Prim.Native.Nat.{ℕ, zero, suc, _+_}
 use lib.ListN.{length, replicate}
 use Rattle.wire.specs.Bytes.{every}
@@ -9,7 +9,7 @@ use Rattle.wire.specs.Frame.{Message, frame, sendable}
 use Rattle.wire.specs.Places.{is}
 use Rattle.wire.specs.declared.Kind.the-variants.{Command}
 use Rattle.wire.proofs.Suits.{both}
-use Rattle.reader.specs.Reading.{Place, outside, inside, Event, nothing, brokenFrame, heard, Read, read, startsAnew, Run, run}
+use Rattle.reader.specs.Reading.{Place, outside, inside, Event, nothing, brokenFrame, heard, read, startsAnew, run}
 use Rattle.line.specs.Turns.{Before, State, Carried, Turn, Session, onWhole, onEvent, turn, session}
 use Rattle.delivery.proofs.Hearing.{Silent, NoneHeard, after-03}
 use Rattle.delivery.proofs.Damaged.{start, heard-last}
