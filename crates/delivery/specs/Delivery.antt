@@ -1,6 +1,7 @@
 -- Demand 3: "A fresh device, always lent its 217 bytes, hears a list of sendable commands, neighbours differing in sequence number or code.
 -- Each is tried one or more times with one and the same frame; each try arrives whole or with exactly one byte replaced by another, at least
 -- one whole; no byte is lost or added. Then the device carries out that very list, each command once and in order."
+-- `session` is the device that is always lent its bytes, so that number 7 never comes.
 use Prim.Native.Nat.{ℕ}
 use mathlib.Core.Path.{_≡_}
 use mathlib.Core.Bool.{Bool, true, false, not, _&&_, _||_}
@@ -13,7 +14,7 @@ use Rattle.wire.specs.Places.{is}
 use Rattle.wire.specs.declared.Kind.the-variants.{Command}
 use Rattle.line.specs.Turns.{State, Carried, session}
 
--- how one try arrives: "whole or with exactly one byte replaced by another"
+-- how one try arrives: "whole or with exactly one byte replaced by another". That byte may be any number: nothing rests on its being below 256.
 pub data Arrival : Type 0 where
   whole : Arrival
   replaced : (at byte : ℕ) → Arrival
