@@ -2,7 +2,7 @@
 use mathlib.Core.Path.{_≡_, refl, sym, ap, _∙_, subst}
 use mathlib.Core.Bool.{Bool, true, false}
 use mathlib.Core.Logic.{_⊎_, ⊎-elim, inl}
-use mathlib.Core.List.{List, [], _∷_, _++_, append-assoc, nil≢cons, cons≢nil, head-eq-of-cons-eq, tail-eq-of-cons-eq}
+use mathlib.Core.List.{List, [], _∷_, _++_, append-assoc, tail-eq-of-cons-eq}
 use Prim.Native.Nat.{ℕ, _+_}
 use native.Mathlib.Omega.{arith}
 use lib.Dec.{eqb}
@@ -13,22 +13,9 @@ use Rattle.wire.specs.declared.Kind.the-variants.{Command}
 use Rattle.reader.specs.Reading.{Place, outside, inside, nothing, heard, read, startsAnew, Run, run}
 use Rattle.reader.proofs.Walking.{run-append}
 use Rattle.reader.proofs.RoundTrip.{read-what-was-built}
-use Rattle.delivery.proofs.Lists.{Free, free-join, free-left, free-right, OneOff, InFirst, InSecond, off-parts, off-one, Around, around}
+use Rattle.delivery.proofs.Lists.{Free, free-join, free-left, free-right, OneOff, InFirst, InSecond, off-parts, off-one, snoc-same, Around, around}
 use Rattle.delivery.proofs.Bodies.{core, check, body, no-01, no-window, no-damaged, no-longer}
 use Rattle.delivery.proofs.Hearing.{NoneHeard, silent-join, silent-start, skipped, place-snoc, none-heard, after-03, Between, behind-last}
-
--- two lists with a last element
-pub snoc-same : {A : Type 0} (xs ys : List A) (a b : A) → xs ++ a ∷ [] ≡ ys ++ b ∷ [] → (xs ≡ ys) × (a ≡ b)
-snoc-same [] [] a b e = (refl, head-eq-of-cons-eq e)
-snoc-same [] (y ∷ []) a b e = absurd (nil≢cons (tail-eq-of-cons-eq e))
-snoc-same [] (y ∷ z ∷ ys) a b e = absurd (nil≢cons (tail-eq-of-cons-eq e))
-snoc-same (x ∷ []) [] a b e = absurd (cons≢nil (tail-eq-of-cons-eq e))
-snoc-same (x ∷ z ∷ xs) [] a b e = absurd (cons≢nil (tail-eq-of-cons-eq e))
-snoc-same (x ∷ xs) (y ∷ ys) a b e =
-    let rest = snoc-same xs ys a b (tail-eq-of-cons-eq e) in
-    let head : x ≡ y = head-eq-of-cons-eq e in
-    let tail : xs ≡ ys = rest .0 in
-    (cc, rest .1)
 
 -- nothing heard, and a place between two tries
 abbrev pub Lost : Place → List ℕ → Type 0

@@ -2,7 +2,6 @@
 use mathlib.Core.Path.{_≡_, refl}
 use mathlib.Core.Bool.{true}
 use mathlib.Core.List.{List, [], _∷_}
-use Prim.Native.Nat.{ℕ}
 use Rattle.wire.specs.Frame.{Message, commandOf}
 use Rattle.line.specs.Turns.{Carried, switchedOn, session}
 use Rattle.delivery.specs.Delivery.{whole, replaced, Sent, delivery, allArriving}

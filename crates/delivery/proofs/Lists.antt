@@ -143,3 +143,16 @@ off-one x (later {z} {xs} {ys} d) e = absurd (off-none d (tail-eq-of-cons-eq e))
 pub off-some : {f g : List ℕ} → OneOff f g → 0 < length f
 off-some (here n) = omega arith
 off-some (later d) = omega arith
+
+-- two lists with a last element
+pub snoc-same : {A : Type 0} (xs ys : List A) (a b : A) → xs ++ a ∷ [] ≡ ys ++ b ∷ [] → (xs ≡ ys) × (a ≡ b)
+snoc-same [] [] a b e = (refl, head-eq-of-cons-eq e)
+snoc-same [] (y ∷ []) a b e = absurd (nil≢cons (tail-eq-of-cons-eq e))
+snoc-same [] (y ∷ z ∷ ys) a b e = absurd (nil≢cons (tail-eq-of-cons-eq e))
+snoc-same (x ∷ []) [] a b e = absurd (cons≢nil (tail-eq-of-cons-eq e))
+snoc-same (x ∷ z ∷ xs) [] a b e = absurd (cons≢nil (tail-eq-of-cons-eq e))
+snoc-same (x ∷ xs) (y ∷ ys) a b e =
+    let rest = snoc-same xs ys a b (tail-eq-of-cons-eq e) in
+    let head : x ≡ y = head-eq-of-cons-eq e in
+    let tail : xs ≡ ys = rest .0 in
+    (cc, rest .1)
