@@ -1,4 +1,194 @@
-// The device.
-pub fn none() -> bool {
-    false
+// The device: a byte in; nothing, NAK or a whole answer out (document 01, "The two machines").
+use books::Books;
+use deeds::Deed;
+use kinds::Parsed;
+use line::Call;
+use line::Line;
+use line::Previous;
+use wire::Built;
+use wire::build;
+ghost use mathlib.Core.Path.{_≡_};
+ghost use Prim.Native.Nat.{_≤_, min};
+ghost use lib.ListN.{length, take, drop};
+ghost use lib.Seq.{sets};
+ghost use Rattle.wire.specs.Frame.{commandOf};
+ghost use Rattle.line.specs.Turns.{lastAnswer};
+ghost use Rattle.line.specs.Calls.{beforeOf};
+ghost use Rattle.device.specs.Carrying.{deedFor, carry};
+ghost use Rattle.device.specs.Device.{After, afterByte};
+ghost use Rattle.device.specs.Private.{Lent, answering, orders, workOf, sizeOf};
+
+// What a byte brought: the device afterwards, the reply number, and how many bytes of the lent buffer are given back.
+pub struct Given {
+    pub line: Line,
+    pub books: Books,
+    pub number: u64,
+    pub count: usize,
+}
+
+// A command carried out: the answer is the first `count` bytes of the lent buffer.
+pub struct Work {
+    pub number: u64,
+    pub books: Books,
+    pub count: usize,
+}
+
+// One byte. The bytes since 01h stand in `frame`, the last answer in `last`: both are the device's own, as it left them.
+pub fn take_byte(
+    line: Line,
+    books: Books,
+    frame: &mut [u8; 256],
+    last: &mut [u8; 217],
+    buf: &mut [u8],
+    b: u8,
+) -> Given
+    ensures { λ r. ⌜ record { given = r; frame = now (frame .exit); last = now (last .exit); buffer = now (buf .exit) } ≡ afterByte line books (now (frame .entry)) (now (last .entry)) (now (buf .entry)) b ⌝ }
+    ensures { λ r. ⌜ r .count ≤ 217 ⌝ }
+{
+    if buf.len() < 217 {
+        return Given {
+            line,
+            books,
+            number: 7,
+            count: 0,
+        };
+    }
+    let called = line::hear(line, frame, b);
+    let next = called.line;
+    let call = called.call;
+    respond(next, books, call, &*frame, last, buf)
+}
+
+// What a call asks for.
+fn respond(
+    line: Line,
+    books: Books,
+    call: Call,
+    frame: &[u8],
+    last: &mut [u8],
+    buf: &mut [u8],
+) -> Given
+    requires { ⌜ Lent (now frame) (now last) (now buf) ⌝ }
+    ensures { λ r. ⌜ record { given = r; frame = now (frame .entry); last = now (last .exit); buffer = now (buf .exit) } ≡ answering line books call (now (frame .entry)) (now (last .entry)) (now (buf .entry)) ⌝ }
+    ensures { λ r. ⌜ r .count ≤ 217 ⌝ }
+{
+    match call {
+        Call::Quiet => gave(line, books, 0, 0),
+        Call::Nak => {
+            text::put_byte(buf, 0, 0x15);
+            gave(line, books, 5, 1)
+        }
+        Call::Again => {
+            let previous = line.previous;
+            let count = again(previous, &*last, buf);
+            gave(line, books, 6, count)
+        }
+        Call::Order { seq, code, count } => order(line, books, seq, code, count, frame, last, buf),
+    }
+}
+
+fn gave(line: Line, books: Books, number: u64, count: usize) -> Given
+    ensures { λ r. ⌜ r ≡ record { line = line; books = books; number = number; count = count } ⌝ }
+{
+    Given {
+        line,
+        books,
+        number,
+        count,
+    }
+}
+
+fn least(a: usize, b: usize) -> usize
+    ensures { λ r. ⌜ r ≡ min a b ⌝ }
+{
+    if a < b {
+        return a;
+    }
+    b
+}
+
+// The last answer once more, byte for byte.
+fn again(previous: Previous, last: &[u8], buf: &mut [u8]) -> usize
+    ensures { λ r. ⌜ r ≡ length (lastAnswer (beforeOf previous (now (last .entry)))) ⌝ }
+    ensures { λ r. ⌜ now (buf .exit) ≡ sets (now (buf .entry)) 0 (lastAnswer (beforeOf previous (now (last .entry)))) ⌝ }
+{
+    match previous {
+        Previous::Nothing => 0,
+        Previous::Frame {
+            seq: _,
+            code: _,
+            count,
+        } => {
+            let n = least(count, last.len());
+            text::put_bytes(buf, 0, &last[0..n]);
+            n
+        }
+    }
+}
+
+// A command whose n data bytes stand in the frame from its fourth byte on.
+fn order(
+    line: Line,
+    books: Books,
+    seq: u8,
+    code: u8,
+    n: usize,
+    frame: &[u8],
+    last: &mut [u8],
+    buf: &mut [u8],
+) -> Given
+    requires { ⌜ Lent (now frame) (now last) (now buf) ⌝ }
+    ensures { λ r. ⌜ record { given = r; frame = now (frame .entry); last = now (last .exit); buffer = now (buf .exit) } ≡ orders line seq code (carry books (commandOf seq code (take n (drop 3 (now (frame .entry)))))) (now (frame .entry)) (now (last .entry)) (now (buf .entry)) ⌝ }
+    ensures { λ r. ⌜ r .count ≤ 217 ⌝ }
+{
+    let end = least(n, 253) + 3;
+    let work = carry_out(books, seq, code, &frame[3..end], buf);
+    let count = work.count;
+    let after = work.books;
+    text::put_bytes(last, 0, &buf[0..count]);
+    let reader = line.reader;
+    let previous = Previous::Frame { seq, code, count };
+    gave(Line { reader, previous }, after, work.number, count)
+}
+
+// The whole answer of a command, built in the lent buffer.
+fn carry_out(books: Books, seq: u8, code: u8, content: &[u8], buf: &mut [u8]) -> Work
+    requires { ⌜ 217 ≤ length (now buf) ⌝ }
+    ensures { λ r. ⌜ r ≡ workOf (carry books (commandOf seq code (now (content .entry)))) ⌝ }
+    ensures { λ r. ⌜ now (buf .exit) ≡ sets (now (buf .entry)) 0 (carry books (commandOf seq code (now (content .entry))) .answer) ⌝ }
+    ensures { λ r. ⌜ r .count ≤ 217 ⌝ }
+{
+    let deed = deed_for(books, command::parse(code, content));
+    let day = books.day;
+    let shown = deed.shown;
+    let number = deed.number;
+    let after = deed.books;
+    let n = answers::show(shown, day, after, buf);
+    let status = answers::status(number, after);
+    let built = build::seal_answer(buf, seq, code, n, status);
+    Work {
+        number,
+        books: after,
+        count: size_of(built),
+    }
+}
+
+fn deed_for(books: Books, parsed: Parsed) -> Deed
+    ensures { λ r. ⌜ r ≡ deedFor books parsed ⌝ }
+{
+    match parsed {
+        Parsed::Read(c) => deeds::carry_out(books, c),
+        Parsed::Syntax => deeds::refuse(1, books),
+        Parsed::Unknown => deeds::refuse(2, books),
+    }
+}
+
+fn size_of(built: Built) -> usize
+    ensures { λ r. ⌜ r ≡ sizeOf built ⌝ }
+{
+    match built {
+        Built::Frame(n) => n,
+        Built::Short => 0,
+        Built::Unsendable => 0,
+    }
 }
