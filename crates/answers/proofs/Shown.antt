@@ -12,7 +12,10 @@ use Rattle.text.specs.Digits.{digits, number}
 use Rattle.text.proofs.Laws.{length-digits, number-digits}
 use Rattle.wire.specs.Bytes.{mayStand, every}
 use Rattle.wire.proofs.Suits.{both}
-use Rattle.wire.specs.declared.Sort.the-variants.{Data, Status}
+use Rattle.wire.specs.Frame.{answerOf, carriable, sendable}
+use Rattle.wire.proofs.Building.{sendable-answer}
+use Rattle.wire.specs.declared.Kind.the-variants.{Answer}
+use Rattle.wire.specs.declared.Sort.the-variants.{Mark, Data, Status}
 use Rattle.books.specs.Rates.{capacity}
 use Rattle.books.specs.Books.{freshBooks}
 use Rattle.books.specs.declared.Books.{Books}
@@ -168,3 +171,16 @@ module _ (day : List ℕ) (b : Books) where
   shown-stands shown.InDrawer = commas-plain (one (0x50 ∷ []) refl (sums-plain 12 (b .drawer .cash ∷ b .drawer .put ∷ b .drawer .taken ∷ [])))
   shown-stands shown.Status = high-pass (mayStand Data) (λ x low high. plain x (omega arith) high) (status-high 0 b)
   shown-stands shown.Rates = rw rates-shown
+
+-- so every answer can be sent, whatever its reply number
+carried : (seq code : ℕ) (content : List ℕ) → mayStand Mark seq ≡ true → mayStand Mark code ≡ true → length content ≤ 200
+    → every (mayStand Data) content ≡ true → carriable seq code content ≡ true
+carried seq code content p q h e = rw (p, q, le-leb (length content) 200 h, e)
+
+pub shown-sendable : (seq code n : ℕ) (s : Shown) (day : List ℕ) (b : Books) → mayStand Mark seq ≡ true → mayStand Mark code ≡ true
+    → length day ≡ 8 → length (b .day) ≡ 8 → length (b .receipt .groups) ≡ 8
+    → sendable Answer (answerOf seq code (contentOf s day b) (statusOf n b)) ≡ true
+shown-sendable seq code n s day b p q d e g =
+    sendable-answer seq code (contentOf s day b) (statusOf n b) (status-six n b)
+    (carried seq code (contentOf s day b) p q (shown-short day b s d e g) (shown-stands day b s))
+    (status-stands n b)
