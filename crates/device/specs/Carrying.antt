@@ -1,6 +1,5 @@
 -- Document 01: a whole frame carried out. "answered by the rules below, refusals 1 to 4 included".
 use Prim.Native.Nat.{ℕ}
-use mathlib.Core.List.{List}
 use Rattle.wire.specs.Frame.{Message, answerOf, frame}
 use Rattle.wire.specs.declared.Kind.the-variants.{Answer}
 use Rattle.kinds.specs.declared.Parsed.{Parsed}

@@ -16,7 +16,6 @@ use Rattle.line.specs.declared.Line.{Line}
 use Rattle.line.specs.declared.Previous.the-variants.{Frame}
 use Rattle.device.specs.Carrying.{carry}
 use Rattle.device.specs.Device.{After}
-use Rattle.device.specs.declared.Given.{Given}
 use Rattle.device.specs.declared.Work.{Work}
 
 -- the arrays and the buffer, at the lengths they are lent

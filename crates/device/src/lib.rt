@@ -163,6 +163,10 @@ fn carry_out(books: Books, seq: u8, code: u8, content: &[u8], buf: &mut [u8]) ->
     let shown = deed.shown;
     let number = deed.number;
     let after = deed.books;
+    let sums = after.day;
+    let receipt = after.receipt;
+    let groups = receipt.groups;
+    sized(day, sums, groups);
     let n = answers::show(shown, day, after, buf);
     let status = answers::status(number, after);
     let built = build::seal_answer(buf, seq, code, n, status);
@@ -171,6 +175,13 @@ fn carry_out(books: Books, seq: u8, code: u8, content: &[u8], buf: &mut [u8]) ->
         books: after,
         count: size_of(built),
     }
+}
+
+// What the types say, for the proof: an answer's length rests on eight sums each.
+fn sized(day: [u64; 8], sums: [u64; 8], groups: [u64; 8]) -> bool
+    ensures { λ r. ⌜ (length day ≡ 8) × (length sums ≡ 8) × (length groups ≡ 8) ⌝ }
+{
+    true
 }
 
 fn deed_for(books: Books, parsed: Parsed) -> Deed

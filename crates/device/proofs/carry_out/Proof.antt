@@ -1,46 +1,56 @@
+use mathlib.Core.Path.{ap, _∙_}
+use native.Mathlib.Omega.{arith}
+use denote.Ref.{now}
+use Rattle.answers.specs.Contents.{contentOf}
+use Rattle.answers.specs.Status.{statusOf}
+use Rattle.answers.proofs.Shown.{shown-short, status-six}
+use Rattle.device.proofs.Working.{seal-size, seal-bytes, work-is, work-bytes}
+use Rattle.device.specs.Carrying.{deedFor}
 use borrow.Author.Needs.{needs}
 use Rattle.device.proofs.carry_out.Statement.{statement}
 use Rattle.device.proofs.carry_out.Tie as tie
-use Rattle.device.proofs.carry_out.Reads as reads
-use Rattle.device.proofs.carry_out.Lts as lts
-use Rattle.answers.proofs.show.Reads as show-reads
-use Rattle.answers.proofs.status.Reads as status-reads
-use Rattle.command.proofs.parse.Reads as parse-reads
-use Rattle.device.proofs.deed_for.Reads as deed-for-reads
-use Rattle.device.proofs.size_of.Reads as size-of-reads
-use Rattle.wire.proofs.build.seal_answer.Reads as seal-answer-reads
 
--- src/lib.rt:157:32
 parse-requires : tie.Need-parse-requires
 parse-requires c κs = search needs
 
--- src/lib.rt:157:9
 deed-for-requires : tie.Need-deed-for-requires
 deed-for-requires c κs = search needs
 
--- src/lib.rt:162:9
+sized-requires : tie.Need-sized-requires
+sized-requires c κs = search needs
+
 show-requires : tie.Need-show-requires
 show-requires c κs = search needs
 
--- src/lib.rt:163:9
 status-requires : tie.Need-status-requires
 status-requires c κs = search needs
 
--- src/lib.rt:164:9
 seal-answer-requires : tie.Need-seal-answer-requires
 seal-answer-requires c κs = search needs
 
--- src/lib.rt:168:16
 size-of-requires : tie.Need-size-of-requires
 size-of-requires c κs = search needs
 
--- src/lib.rt:152:1
 same-length : tie.Need-same-length
 same-length c = search needs
 
--- src/lib.rt:152:1
 returns : tie.Need-returns
-returns c = ?
+returns c =
+    let a = c .before .before .before .before .before .before .before .before .before .before .before .before .before .before .before .before .before .before .before .before .args in
+    let d = c .before .before .before .before .before .before .before .before .before .before .before .before .before .before .before .before .deed-for .result in
+    let made = c .before .before .before .before .before .before .before .before .before .before .before .before .before .before .before .before .deed-for .ensures ∙ ap (deedFor (a .books)) (c .before .before .before .before .before .before .before .before .before .before .before .before .before .before .before .before .before .parse .ensures) in
+    let few = shown-short (a .books .day) (d .books) (d .shown) (c .before .before .before .before .before .before .before .before .before .before .sized .ensures .0) (c .before .before .before .before .before .before .before .before .before .before .sized .ensures .1) (c .before .before .before .before .before .before .before .before .before .before .sized .ensures .2) in
+    let six = status-six (d .number) (d .books) in
+    let content = contentOf (d .shown) (a .books .day) (d .books) in
+    let status = statusOf (d .number) (d .books) in
+    let size = seal-size (now (a .buf)) content status (c .before .before .before .before .before .status .result) (a .seq) (a .code) (c .before .before .before .before .before .before .before .before .show .result) _ _ (c .before .before .before .seal-answer .result) (c .before .before .before .before .before .before .before .before .before .before .before .before .before .before .before .before .before .before .before .before .pre) few six (c .before .before .before .before .before .before .before .before .show .ensures .0) (c .before .before .before .before .before .before .before .before .show .ensures .1) (c .before .before .before .before .before .status .ensures) (c .before .before .before .seal-answer .ensures) in
+    let bytes = seal-bytes (now (a .buf)) content status (c .before .before .before .before .before .status .result) (a .seq) (a .code) (c .before .before .before .before .before .before .before .before .show .result) _ _ (c .before .before .before .seal-answer .result) (c .before .before .before .before .before .before .before .before .before .before .before .before .before .before .before .before .before .before .before .before .pre) few six (c .before .before .before .before .before .before .before .before .show .ensures .0) (c .before .before .before .before .before .before .before .before .show .ensures .1) (c .before .before .before .before .before .status .ensures) (c .before .before .before .seal-answer .ensures) in (
+      work-is (a .books) (a .seq) (a .code) (now (a .content)) d made (c .size-of .result) (c .size-of .ensures ∙ size .0),
+      (
+        work-bytes (a .books) (a .seq) (a .code) (now (a .content)) d made (now (a .buf)) _ bytes,
+        omega (arith, c .size-of .ensures, size .1),
+      ),
+    )
 
 pub carry-out-spec : {M : Type 1} → statement M
 carry-out-spec =
@@ -48,6 +58,7 @@ carry-out-spec =
     (tie.spec
     parse-requires
     deed-for-requires
+    sized-requires
     show-requires
     status-requires
     seal-answer-requires

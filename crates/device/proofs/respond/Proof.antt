@@ -1,88 +1,75 @@
+use mathlib.Core.Path.{ap}
+use native.Mathlib.Omega.{arith}
+use denote.Ref.{now}
+use Rattle.device.proofs.Working.{call-quiet, call-nak, call-again, call-order, again-few}
 use borrow.Author.Needs.{needs}
 use Rattle.device.proofs.respond.Statement.{statement}
 use Rattle.device.proofs.respond.Tie as tie
-use Rattle.device.proofs.respond.Reads as reads
-use Rattle.device.proofs.respond.Lts as lts
-use Rattle.device.proofs.again.Reads as again-reads
-use Rattle.device.proofs.gave.Reads as gave-reads
-use Rattle.device.proofs.order.Reads as order-reads
-use Rattle.text.proofs.put_byte.Reads as put-byte-reads
 
--- src/lib.rt:74:24
 enum-told : tie.Need-enum-told
 enum-told c = search needs
 
--- src/lib.rt:74:24
 gave-requires : tie.Need-gave-requires
 gave-requires c κs = search needs
 
--- src/lib.rt:76:28
 enum-told-2 : tie.Need-enum-told-2
 enum-told-2 c = search needs
 
--- src/lib.rt:76:13
 put-byte-requires : tie.Need-put-byte-requires
 put-byte-requires c κs = search needs
 
--- src/lib.rt:77:13
 gave-requires-2 : tie.Need-gave-requires-2
 gave-requires-2 c κs = search needs
 
--- src/lib.rt:80:17
 enum-told-3 : tie.Need-enum-told-3
 enum-told-3 c = search needs
 
--- src/lib.rt:81:17
 again-requires : tie.Need-again-requires
 again-requires c κs = search needs
 
--- src/lib.rt:82:13
 gave-requires-3 : tie.Need-gave-requires-3
 gave-requires-3 c κs = search needs
 
--- src/lib.rt:84:23
 enum-known-call : tie.Need-enum-known-call
 enum-known-call c = search needs
 
--- src/lib.rt:84:45
 order-requires : tie.Need-order-requires
 order-requires c κs = search needs
 
--- src/lib.rt:62:1
 returns : tie.Need-returns
-returns c = ?
+returns c =
+    let a = c .before .before .before .before .before .before .args in
+    (call-quiet (a .line) (a .books) (a .call) (now (a .frame)) (now (a .last)) (now (a .buf)) (c .gave .result) (c .gave .ensures) (c .before .enum-told .given .1), omega (arith, ap (λ z. z .count) (c .gave .ensures)))
 
--- src/lib.rt:62:1
 same-length : tie.Need-same-length
 same-length c = search needs
 
--- src/lib.rt:62:1
 returns-2 : tie.Need-returns-2
-returns-2 c = ?
+returns-2 c =
+    let a = c .before .before .before .before .before .before .before .before .before .before .args in
+    (call-nak (a .line) (a .books) (a .call) (now (a .frame)) (now (a .last)) (now (a .buf)) (c .gave2 .result) _ (c .gave2 .ensures) (c .before .before .before .put-byte .ensures) (c .before .before .before .before .before .enum-told2 .given .1), omega (arith, ap (λ z. z .count) (c .gave2 .ensures)))
 
--- src/lib.rt:62:1
 same-length-2 : tie.Need-same-length-2
 same-length-2 c = search needs
 
--- src/lib.rt:62:1
 same-length-3 : tie.Need-same-length-3
 same-length-3 c = search needs
 
--- src/lib.rt:62:1
 returns-3 : tie.Need-returns-3
-returns-3 c = ?
+returns-3 c =
+    let a = c .before .before .before .before .before .before .before .before .before .before .before .args in
+    (call-again (a .line) (a .books) (a .call) (now (a .frame)) (now (a .last)) (now (a .buf)) (c .gave3 .result) (c .before .before .before .again .result) _ (c .gave3 .ensures) (c .before .before .before .again .ensures .0) (c .before .before .before .again .ensures .1) (c .before .before .before .before .before .before .enum-told3 .given .1), omega (arith, ap (λ z. z .count) (c .gave3 .ensures), c .before .before .before .again .ensures .0, again-few (a .line .previous) (now (a .last)) (c .before .before .before .before .before .before .before .before .before .before .before .pre .lasts)))
 
--- src/lib.rt:62:1
 same-length-4 : tie.Need-same-length-4
 same-length-4 c = search needs
 
--- src/lib.rt:62:1
 same-length-5 : tie.Need-same-length-5
 same-length-5 c = search needs
 
--- src/lib.rt:62:1
 returns-4 : tie.Need-returns-4
-returns-4 c = ?
+returns-4 c =
+    let a = c .before .before .before .before .before .before .before .before .before .before .before .before .before .args in
+    (call-order (a .line) (a .books) (a .call) (now (a .frame)) (now (a .last)) (now (a .buf)) _ _ _ _ (c .before .before .before .before .order .ensures .0) (c .before .before .before .before .before .before .before .before .call .given .1), c .before .before .before .before .order .ensures .1)
 
 pub respond-spec : {M : Type 1} → statement M
 respond-spec =

@@ -1,30 +1,28 @@
+use native.Mathlib.Omega.{arith}
+use denote.Ref.{now}
+use Rattle.device.proofs.Turning.{byte-short, byte-taken}
 use borrow.Author.Needs.{needs}
 use Rattle.device.proofs.take_byte.Statement.{statement}
 use Rattle.device.proofs.take_byte.Tie as tie
-use Rattle.device.proofs.take_byte.Reads as reads
-use Rattle.device.proofs.take_byte.Lts as lts
-use Rattle.device.proofs.respond.Reads as respond-reads
-use Rattle.line.proofs.hear.Reads as hear-reads
 
--- src/lib.rt:48:9
 returns : tie.Need-returns
-returns c = ?
+returns c =
+    let a = c .before .before .args in
+    (byte-short (a .line) (a .books) (now (a .frame)) (now (a .last)) (now (a .buf)) (a .b) (c .if1 .taken), omega arith)
 
--- src/lib.rt:55:9
 hear-requires : tie.Need-hear-requires
 hear-requires c κs = search needs
 
--- src/lib.rt:58:5
 respond-requires : tie.Need-respond-requires
 respond-requires c κs = search needs
 
--- src/lib.rt:37:1
 same-length : tie.Need-same-length
 same-length c = search needs
 
--- src/lib.rt:37:1
 returns-2 : tie.Need-returns-2
-returns-2 c = ?
+returns-2 c =
+    let a = c .before .before .before .before .before .before .before .before .before .before .before .before .args in
+    (byte-taken (a .line) (a .books) (now (a .frame)) (now (a .last)) (now (a .buf)) (a .b) (c .before .before .before .before .before .before .before .before .hear .result) _ _ (c .before .before .before .before .before .before .before .before .before .before .if1 .left) (c .before .before .before .before .before .before .before .before .hear .ensures .0) (c .before .before .before .before .before .before .before .before .hear .ensures .1) (c .before .before .respond .ensures .0), c .before .before .respond .ensures .1)
 
 pub take-byte-spec : {M : Type 1} → statement M
 take-byte-spec = tie.close (tie.spec returns hear-requires respond-requires same-length returns-2)
