@@ -1,2 +1,3 @@
 pub mod Working
 pub mod Turning
+pub mod Listening

@@ -56,7 +56,7 @@ anew outside m e = not-nothing m e
 anew (inside sum []) m e = not-nothing m e
 anew (inside sum (b ∷ bytes)) m e = not-broken m e
 
-abbrev Standing-in : List ℕ → Message → Type 0
+abbrev pub Standing-in : List ℕ → Message → Type 0
 Standing-in frame m = m ≡ commandOf (m .seq) (m .code) (take (length (m .content)) (drop 3 frame))
 
 stands-in : (frame : List ℕ) (c : ℕ) → Standing-in frame (message Command (take c frame))
@@ -81,7 +81,7 @@ pub heard-whole : (r : Reader) (frame : List ℕ) (b : ℕ) (m : Message) → re
 heard-whole r frame b m e = heard-inside r frame b m (r .inside) (eqb b 0x01) e
 
 -- the frame before, in the fields and as a state
-same-repeat : (p : Previous) (last : List ℕ) (m : Message) → repeats (beforeOf p last) m ≡ isRepeat p (m .seq) (m .code)
+pub same-repeat : (p : Previous) (last : List ℕ) (m : Message) → repeats (beforeOf p last) m ≡ isRepeat p (m .seq) (m .code)
 same-repeat Nothing last m = refl
 same-repeat (Frame s c n) last m = refl
 
@@ -94,10 +94,10 @@ module _ (l : Line) (b : Books) (frame last buffer : List ℕ) where
   state = stateOf l b frame last
 
   -- a whole frame given again, and carried out
-  abbrev againTurn : Place → Turn Books
+  abbrev pub againTurn : Place → Turn Books
   againTurn next = record { number = 6; gives = lastAnswer (beforeOf (l .previous) last); carried = []; state = record { place = next; before = beforeOf (l .previous) last; books = b } }
 
-  abbrev orderTurn : Place → Message → Turn Books
+  abbrev pub orderTurn : Place → Message → Turn Books
   orderTurn next m =
       record { number = carry b m .number; gives = carry b m .answer; carried = m ∷ []; state = record { place = next; before = was (m .seq) (m .code) (carry b m .answer); books = carry b m .books } }
 

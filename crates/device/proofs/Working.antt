@@ -96,9 +96,11 @@ off-none : (n : ℕ) → n - 0 ≡ n
 off-none n = omega arith
 
 -- what was put at the front stands there
+pub front-stands : (l bytes : List ℕ) → length bytes ≤ length l → take (length bytes) (sets l 0 bytes) ≡ bytes
+front-stands l bytes h = ap (take (length bytes)) (sets-eq bytes l 0 (omega arith)) ∙ take-at bytes (drop (0 + length bytes) l) (length bytes) refl
+
 pub front-back : (l bytes : List ℕ) → length bytes ≤ length l → take (length bytes - 0) (drop 0 (sets l 0 bytes)) ≡ bytes
-front-back l bytes h =
-    ap (λ k. take k (sets l 0 bytes)) (off-none (length bytes)) ∙ ap (take (length bytes)) (sets-eq bytes l 0 (omega arith)) ∙ take-at bytes (drop (0 + length bytes) l) (length bytes) refl
+front-back l bytes h = ap (λ k. take k (sets l 0 bytes)) (off-none (length bytes)) ∙ front-stands l bytes h
 
 -- the last answer, once more
 module _ (p : Previous) (last l : List ℕ) (s c count n : ℕ) (e : p ≡ Frame s c count) (en : n ≡ min count (length last)) where

@@ -1,3 +1,4 @@
 pub mod Carrying
 pub mod Device
+pub mod Recording
 pub mod Private

@@ -1,6 +1,7 @@
 -- What a call makes of the device: the second half of a byte, which alone moves the books. No promise to a caller rests on it.
 use Prim.Native.Nat.{ℕ, _≤_}
 use mathlib.Core.Path.{_≡_}
+use mathlib.Core.Bool.{Bool, true, false}
 use mathlib.Core.List.{List, [], _∷_}
 use lib.ListN.{length, take, drop}
 use lib.Seq.{sets}
@@ -16,6 +17,7 @@ use Rattle.line.specs.declared.Line.{Line}
 use Rattle.line.specs.declared.Previous.the-variants.{Frame}
 use Rattle.device.specs.Carrying.{carry}
 use Rattle.device.specs.Device.{After}
+use Rattle.device.specs.Recording.{listed}
 use Rattle.device.specs.declared.Work.{Work}
 
 -- the arrays and the buffer, at the lengths they are lent
@@ -50,3 +52,16 @@ abbrev pub sizeOf : Built → ℕ
 sizeOf (built.Frame n) = n
 sizeOf built.Short = 0
 sizeOf built.Unsendable = 0
+
+-- what a call adds to the list of commands carried out
+abbrev pub listedCall : Call → List ℕ → List ℕ
+listedCall Quiet frame = []
+listedCall Nak frame = []
+listedCall Again frame = []
+listedCall (Order seq code n) frame = listed (commandOf seq code (take n (drop 3 frame)))
+
+abbrev pub isQuiet : Call → Bool
+isQuiet Quiet = true
+isQuiet Nak = false
+isQuiet Again = false
+isQuiet (Order seq code n) = false

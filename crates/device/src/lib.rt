@@ -8,7 +8,7 @@ use line::Previous;
 use wire::Built;
 use wire::build;
 ghost use mathlib.Core.Path.{_≡_};
-ghost use Prim.Native.Nat.{_≤_, min};
+ghost use Prim.Native.Nat.{_+_, _≤_, min};
 ghost use lib.ListN.{length, take, drop};
 ghost use lib.Seq.{sets};
 ghost use Rattle.wire.specs.Frame.{commandOf};
@@ -16,7 +16,8 @@ ghost use Rattle.line.specs.Turns.{lastAnswer};
 ghost use Rattle.line.specs.Calls.{beforeOf};
 ghost use Rattle.device.specs.Carrying.{deedFor, carry};
 ghost use Rattle.device.specs.Device.{After, afterByte};
-ghost use Rattle.device.specs.Private.{Lent, answering, orders, workOf, sizeOf};
+ghost use Rattle.device.specs.Recording.{recording, toldIn};
+ghost use Rattle.device.specs.Private.{Lent, answering, orders, workOf, sizeOf, listedCall, isQuiet};
 
 // What a byte brought: the device afterwards, the reply number, and how many bytes of the lent buffer are given back.
 pub struct Given {
@@ -31,6 +32,13 @@ pub struct Work {
     pub number: u64,
     pub books: Books,
     pub count: usize,
+}
+
+// A recording heard: the books at the end, and how many bytes stand in the two lent buffers.
+pub struct Recorded {
+    pub books: Books,
+    pub given: usize,
+    pub listed: usize,
 }
 
 // One byte. The bytes since 01h stand in `frame`, the last answer in `last`: both are the device's own, as it left them.
@@ -201,5 +209,95 @@ fn size_of(built: Built) -> usize
         Built::Frame(n) => n,
         Built::Short => 0,
         Built::Unsendable => 0,
+    }
+}
+
+// A recorded session, heard by a fresh device that is always lent its 217 bytes. What it gives back goes into `out`, the commands
+// carried out into `orders`, as far as each reaches. The books move only where a byte asks for something.
+pub fn hear_all(bytes: &[u8], out: &mut [u8], orders: &mut [u8]) -> Recorded
+    ensures { λ r. ⌜ record { recorded = r; out = now (out .exit); orders = now (orders .exit) } ≡ toldIn (now (out .entry)) (now (orders .entry)) (recording (now (bytes .entry))) ⌝ }
+{
+    let mut frame = [0u8; 256];
+    let mut last = [0u8; 217];
+    let mut buf = [0u8; 217];
+    let mut line = line::fresh();
+    let mut books = books::fresh();
+    let mut given: usize = 0;
+    let mut listed: usize = 0;
+    let mut i = 0;
+    while i < bytes.len() {
+        let called = line::hear(line, &mut frame, bytes[i]);
+        let next = called.line;
+        let call = called.call;
+        line = next;
+        i += 1;
+        if is_quiet(call) {
+            continue;
+        }
+        listed = list_call(call, &frame, orders, listed);
+        let step = respond(next, books, call, &frame, &mut last, &mut buf);
+        let after = step.line;
+        let kept = step.books;
+        let count = step.count;
+        line = after;
+        books = kept;
+        given = append(out, given, &buf[0..count]);
+    }
+    Recorded {
+        books,
+        given,
+        listed,
+    }
+}
+
+fn is_quiet(call: Call) -> bool
+    ensures { λ r. ⌜ r ≡ isQuiet call ⌝ }
+{
+    match call {
+        Call::Quiet => true,
+        Call::Nak => false,
+        Call::Again => false,
+        Call::Order {
+            seq: _,
+            code: _,
+            count: _,
+        } => false,
+    }
+}
+
+// The bytes behind those that stand already; past the end nothing is written.
+fn append(out: &mut [u8], at: usize, src: &[u8]) -> usize
+    ensures { λ r. ⌜ r ≡ min (at + length (now (src .entry))) (length (now (out .entry))) ⌝ }
+    ensures { λ r. ⌜ now (out .exit) ≡ sets (now (out .entry)) at (now (src .entry)) ⌝ }
+{
+    let size = out.len();
+    text::put_bytes(out, at, src);
+    if size <= at {
+        return size;
+    }
+    if size - at < src.len() {
+        return size;
+    }
+    at + src.len()
+}
+
+// A command carried out, listed behind the others.
+fn list_call(call: Call, frame: &[u8], orders: &mut [u8], at: usize) -> usize
+    requires { ⌜ length (now frame) ≡ 256 ⌝ }
+    requires { ⌜ at ≤ length (now orders) ⌝ }
+    ensures { λ r. ⌜ r ≡ min (at + length (listedCall call (now (frame .entry)))) (length (now (orders .entry))) ⌝ }
+    ensures { λ r. ⌜ now (orders .exit) ≡ sets (now (orders .entry)) at (listedCall call (now (frame .entry))) ⌝ }
+{
+    match call {
+        Call::Quiet => at,
+        Call::Nak => at,
+        Call::Again => at,
+        Call::Order { seq, code, count } => {
+            let n = least(count, 253);
+            let end = n + 3;
+            let head = [seq, code, (n % 256) as u8];
+            let behind = append(orders, at, &head);
+            append(orders, behind, &frame[3..end])
+        }
     }
 }

@@ -97,14 +97,14 @@ head-start kind bytes reader e =
       told = simp zero-add;
     })
 
-place-room : (r : Reader) (array : List ℕ) → length (bytesOf (placeOf r array)) ≤ r .count
+pub place-room : (r : Reader) (array : List ℕ) → length (bytesOf (placeOf r array)) ≤ r .count
 place-room r array = go (r .inside)
   where
     go : (within : Bool) → length (bytesOf (cond within (inside (r .sum) (take (r .count) array)) outside)) ≤ r .count
     go true = omega (arith, length-take (r .count) array)
     go false = omega arith
 
-kept-length : (array : List ℕ) (p : Place) → length (keptIn array p) ≡ length array
+pub kept-length : (array : List ℕ) (p : Place) → length (keptIn array p) ≡ length array
 kept-length array outside = refl
 kept-length array (inside sum bytes) = length-sets array 0 bytes
 

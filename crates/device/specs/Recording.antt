@@ -1,0 +1,36 @@
+-- A recorded session: "the raw bytes the device received", heard by a fresh device that is always lent its 217 bytes.
+use Prim.Native.Nat.{ℕ, _+_, _%_, min}
+use mathlib.Core.List.{List, [], _∷_, _++_}
+use lib.ListN.{length}
+use lib.Seq.{sets}
+use Rattle.wire.specs.Frame.{Message}
+use Rattle.books.specs.Books.{freshBooks}
+use Rattle.books.specs.declared.Books.{Books}
+use Rattle.line.specs.Turns.{Session, session, switchedOn}
+use Rattle.device.specs.Carrying.{carry}
+use Rattle.device.specs.declared.Recorded.{Recorded}
+
+abbrev pub recording : List ℕ → Session Books
+recording bytes = session carry (switchedOn freshBooks) bytes
+
+-- a command in the list of those carried out: SEQ, CMD, the number of its data bytes, the data. There are at most 200, so that one byte holds the number.
+abbrev pub listed : Message → List ℕ
+listed m = m .seq ∷ m .code ∷ (length (m .content) % 256) ∷ m .content
+
+abbrev pub listing : List Message → List ℕ
+listing [] = []
+listing (m ∷ ms) = listed m ++ listing ms
+
+-- what is told of a session: the books at the end, and in two lent buffers, as far as they reach, all that was given back and the commands carried out
+pub record Told : Type 0 where
+  pub recorded : Recorded
+  pub out : List ℕ
+  pub orders : List ℕ
+
+abbrev pub toldIn : List ℕ → List ℕ → Session Books → Told
+toldIn out orders s =
+    record {
+      recorded = record { books = s .state .books; given = min (length (s .gives)) (length out); listed = min (length (listing (s .carried))) (length orders) };
+      out = sets out 0 (s .gives);
+      orders = sets orders 0 (listing (s .carried));
+    }
