@@ -1,0 +1,316 @@
+// The till end: it hands out command frames, hears the device's bytes, and gives a command up after five tries (document 01, "The till end").
+use reader::Heard;
+use reader::Reader;
+use wire::Built;
+use wire::Kind;
+ghost use mathlib.Core.Path.{_≡_};
+ghost use mathlib.Core.List.{List, _++_};
+ghost use Prim.Native.Nat.{ℕ, _+_, _≤_};
+ghost use lib.ListN.{length, take, drop};
+ghost use lib.Seq.{sets};
+ghost use Rattle.till.specs.Words.{numberOf, countOf};
+ghost use Rattle.till.specs.Turns.{command, byte, timeout, freshState, seqAfter};
+ghost use Rattle.till.specs.Fields.{tillOf, framed, readIn, saidOf, turnOf};
+ghost use Rattle.till.specs.Private.{toldOf, failedBy, heardBy, sentBy};
+ghost use Rattle.till.specs.declared.Sent.the-variants.{Free, Held};
+ghost use Rattle.till.specs.declared.Word.the-variants.{Waiting, Answered};
+
+// A command that waits. Its frame is the first `count` bytes of a lent array.
+pub struct Attempt {
+    pub seq: u8,
+    pub code: u8,
+    pub tries: u8,
+    pub count: u8,
+    pub reader: Reader,
+}
+
+pub enum Sent {
+    Free,
+    Held(Attempt),
+}
+
+// `next` is the SEQ of the next command.
+pub struct Till {
+    pub next: u8,
+    pub sent: Sent,
+}
+
+// What the till end says, with how many bytes it put in the lent buffer, or the number of tries.
+pub enum Word {
+    Idle,
+    Waiting(usize),
+    SendAgain(usize),
+    Answered(usize),
+    Unfinished(usize),
+    TooShort,
+    NotSent,
+}
+
+pub struct Said {
+    pub till: Till,
+    pub word: Word,
+}
+
+pub fn fresh() -> Till
+    ensures { λ r. ⌜ r ≡ tillOf freshState ⌝ }
+{
+    Till {
+        next: 0x20,
+        sent: Sent::Free,
+    }
+}
+
+// The reply number of a word.
+pub fn number(word: Word) -> u8
+    ensures { λ r. ⌜ r ≡ numberOf word ⌝ }
+{
+    match word {
+        Word::Idle => 0,
+        Word::Waiting(_) => 0,
+        Word::SendAgain(_) => 0,
+        Word::Answered(_) => 0,
+        Word::Unfinished(_) => 9,
+        Word::TooShort => 7,
+        Word::NotSent => 8,
+    }
+}
+
+// What a word gives back: a count of bytes, or of tries.
+pub fn count(word: Word) -> usize
+    ensures { λ r. ⌜ r ≡ countOf word ⌝ }
+{
+    match word {
+        Word::Idle => 0,
+        Word::Waiting(n) => n,
+        Word::SendAgain(n) => n,
+        Word::Answered(n) => n,
+        Word::Unfinished(n) => n,
+        Word::TooShort => 0,
+        Word::NotSent => 0,
+    }
+}
+
+pub fn command(till: Till, frame: &mut [u8; 256], code: u8, content: &[u8], buf: &mut [u8]) -> Said
+    ensures { λ r. ⌜ ((answer : List ℕ) → r ≡ saidOf till (turnOf till (now (frame .entry)) answer (now (buf .entry)) (command code (now (content .entry))))) ⌝ }
+    ensures { λ r. ⌜ ((answer : List ℕ) → now (frame .exit) ≡ framed (now (frame .entry)) (turnOf till (now (frame .entry)) answer (now (buf .entry)) (command code (now (content .entry))) .state .pending)) ⌝ }
+    ensures { λ r. ⌜ ((answer : List ℕ) → now (buf .exit) ≡ sets (now (buf .entry)) 0 (turnOf till (now (frame .entry)) answer (now (buf .entry)) (command code (now (content .entry))) .puts)) ⌝ }
+{
+    if buf.len() < 210 {
+        return Said {
+            till,
+            word: Word::TooShort,
+        };
+    }
+    let sent = till.sent;
+    let Sent::Free = sent else {
+        return Said {
+            till,
+            word: Word::NotSent,
+        };
+    };
+    send(till.next, frame, code, content, buf)
+}
+
+// The frame is built in its own array, and handed out from there at every try.
+fn send(next: u8, frame: &mut [u8; 256], code: u8, content: &[u8], buf: &mut [u8]) -> Said
+    ensures { λ r. ⌜ r ≡ toldOf (sentBy next code (now (content .entry))) ⌝ }
+    ensures { λ r. ⌜ now (frame .exit) ≡ framed (now (frame .entry)) (sentBy next code (now (content .entry)) .state .pending) ⌝ }
+    ensures { λ r. ⌜ now (buf .exit) ≡ sets (now (buf .entry)) 0 (sentBy next code (now (content .entry)) .puts) ⌝ }
+{
+    let built = wire::build::build_command(frame, next, code, content);
+    let Built::Frame(n) = built else {
+        return Said {
+            till: Till {
+                next,
+                sent: Sent::Free,
+            },
+            word: Word::NotSent,
+        };
+    };
+    let count = n as u8;
+    hand_out(&*frame, count, buf);
+    Said {
+        till: Till {
+            next: seq_after(next),
+            sent: Sent::Held(Attempt {
+                seq: next,
+                code,
+                tries: 1,
+                count,
+                reader: reader::fresh(),
+            }),
+        },
+        word: Word::Waiting(n),
+    }
+}
+
+fn seq_after(seq: u8) -> u8
+    ensures { λ r. ⌜ r ≡ seqAfter seq ⌝ }
+{
+    if seq == 0xFF {
+        return 0x20;
+    }
+    seq + 1
+}
+
+// The frame's bytes at the front of the lent buffer.
+fn hand_out(frame: &[u8], count: u8, buf: &mut [u8])
+    requires { ⌜ length (now frame) ≡ 256 ⌝ }
+    ensures { λ r. ⌜ now (buf .exit) ≡ sets (now (buf .entry)) 0 (take count (now (frame .entry))) ⌝ }
+{
+    let n = count as usize;
+    text::put_bytes(buf, 0, &frame[..n]);
+}
+
+pub fn byte(till: Till, frame: &[u8; 256], answer: &mut [u8; 256], b: u8, buf: &mut [u8]) -> Said
+    ensures { λ r. ⌜ r ≡ saidOf till (turnOf till (now (frame .entry)) (now (answer .entry)) (now (buf .entry)) (byte b)) ⌝ }
+    ensures { λ r. ⌜ now (answer .exit) ≡ readIn (now (answer .entry)) (turnOf till (now (frame .entry)) (now (answer .entry)) (now (buf .entry)) (byte b) .state .pending) ⌝ }
+    ensures { λ r. ⌜ now (buf .exit) ≡ sets (now (buf .entry)) 0 (turnOf till (now (frame .entry)) (now (answer .entry)) (now (buf .entry)) (byte b) .puts) ⌝ }
+{
+    if buf.len() < 210 {
+        return Said {
+            till,
+            word: Word::TooShort,
+        };
+    }
+    let sent = till.sent;
+    let Sent::Held(attempt) = sent else {
+        return Said {
+            till,
+            word: Word::Idle,
+        };
+    };
+    hear(till.next, attempt, frame, answer, b, buf)
+}
+
+// A byte to a command that waits.
+fn hear(
+    next: u8,
+    attempt: Attempt,
+    frame: &[u8; 256],
+    answer: &mut [u8; 256],
+    b: u8,
+    buf: &mut [u8],
+) -> Said
+    ensures { λ r. ⌜ r ≡ toldOf (heardBy next attempt (now (frame .entry)) (now (answer .entry)) b) ⌝ }
+    ensures { λ r. ⌜ now (answer .exit) ≡ readIn (now (answer .entry)) (heardBy next attempt (now (frame .entry)) (now (answer .entry)) b .state .pending) ⌝ }
+    ensures { λ r. ⌜ now (buf .exit) ≡ sets (now (buf .entry)) 0 (heardBy next attempt (now (frame .entry)) (now (answer .entry)) b .puts) ⌝ }
+{
+    let reader = attempt.reader;
+    if b == 0x15 {
+        if !reader.inside {
+            return failed_try(next, attempt, frame, buf);
+        }
+    }
+    let taken = reader::take_byte(Kind::Answer, reader, answer, b);
+    let after = taken.reader;
+    let heard = taken.heard;
+    match heard {
+        Heard::Nothing => goes_on(next, attempt, after),
+        Heard::Broken => {
+            if b == 0x01 {
+                return goes_on(next, attempt, after);
+            }
+            failed_try(next, attempt, frame, buf)
+        }
+        Heard::Whole { seq, code, count } => {
+            if seq != attempt.seq {
+                return failed_try(next, attempt, frame, buf);
+            }
+            if code != attempt.code {
+                return failed_try(next, attempt, frame, buf);
+            }
+            answered(next, &*answer, count, buf)
+        }
+    }
+}
+
+fn goes_on(next: u8, attempt: Attempt, reader: Reader) -> Said
+    ensures { λ r. ⌜ r ≡ record { till = record { next = next; sent = Held (record { seq = attempt .seq; code = attempt .code; tries = attempt .tries; count = attempt .count; reader = reader }) }; word = Waiting 0 } ⌝ }
+{
+    Said {
+        till: Till {
+            next,
+            sent: Sent::Held(Attempt {
+                seq: attempt.seq,
+                code: attempt.code,
+                tries: attempt.tries,
+                count: attempt.count,
+                reader,
+            }),
+        },
+        word: Word::Waiting(0),
+    }
+}
+
+// The answer's n data bytes, and behind them its six status bytes.
+fn answered(next: u8, answer: &[u8], n: usize, buf: &mut [u8]) -> Said
+    requires { ⌜ n + 10 ≤ length (now answer) ⌝ }
+    ensures { λ r. ⌜ r ≡ record { till = record { next = next; sent = Free }; word = Answered (n + 6) } ⌝ }
+    ensures { λ r. ⌜ now (buf .exit) ≡ sets (now (buf .entry)) 0 (take n (drop 3 (now (answer .entry))) ++ take 6 (drop (4 + n) (now (answer .entry)))) ⌝ }
+{
+    let end = n + 3;
+    let from = n + 4;
+    let behind = n + 10;
+    text::put_bytes(buf, 0, &answer[3..end]);
+    text::put_bytes(buf, n, &answer[from..behind]);
+    Said {
+        till: Till {
+            next,
+            sent: Sent::Free,
+        },
+        word: Word::Answered(n + 6),
+    }
+}
+
+// The same frame again, up to the fifth try.
+fn failed_try(next: u8, attempt: Attempt, frame: &[u8; 256], buf: &mut [u8]) -> Said
+    ensures { λ r. ⌜ r ≡ toldOf (failedBy next attempt (now (frame .entry))) ⌝ }
+    ensures { λ r. ⌜ now (buf .exit) ≡ sets (now (buf .entry)) 0 (failedBy next attempt (now (frame .entry)) .puts) ⌝ }
+{
+    let tries = attempt.tries;
+    let count = attempt.count;
+    if tries < 5 {
+        hand_out(frame, count, buf);
+        return Said {
+            till: Till {
+                next,
+                sent: Sent::Held(Attempt {
+                    seq: attempt.seq,
+                    code: attempt.code,
+                    tries: tries + 1,
+                    count,
+                    reader: reader::fresh(),
+                }),
+            },
+            word: Word::SendAgain(count as usize),
+        };
+    }
+    Said {
+        till: Till {
+            next,
+            sent: Sent::Free,
+        },
+        word: Word::Unfinished(tries as usize),
+    }
+}
+
+pub fn timeout(till: Till, frame: &[u8; 256], buf: &mut [u8]) -> Said
+    ensures { λ r. ⌜ ((answer : List ℕ) → r ≡ saidOf till (turnOf till (now (frame .entry)) answer (now (buf .entry)) timeout)) ⌝ }
+    ensures { λ r. ⌜ ((answer : List ℕ) → now (buf .exit) ≡ sets (now (buf .entry)) 0 (turnOf till (now (frame .entry)) answer (now (buf .entry)) timeout .puts)) ⌝ }
+{
+    if buf.len() < 210 {
+        return Said {
+            till,
+            word: Word::TooShort,
+        };
+    }
+    let sent = till.sent;
+    let Sent::Held(attempt) = sent else {
+        return Said {
+            till,
+            word: Word::Idle,
+        };
+    };
+    failed_try(till.next, attempt, frame, buf)
+}
