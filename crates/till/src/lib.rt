@@ -4,8 +4,10 @@ use reader::Reader;
 use wire::Built;
 use wire::Kind;
 ghost use mathlib.Core.Path.{_≡_};
+ghost use mathlib.Core.Bool.{false, cond};
 ghost use mathlib.Core.List.{List, _++_};
-ghost use Prim.Native.Nat.{ℕ, _+_, _≤_};
+ghost use Prim.Native.Nat.{ℕ, _+_, _≤_, _<_};
+ghost use lib.Dec.{eqb};
 ghost use lib.ListN.{length, take, drop};
 ghost use lib.Seq.{sets};
 ghost use Rattle.till.specs.Words.{numberOf, countOf};
@@ -13,7 +15,7 @@ ghost use Rattle.till.specs.Turns.{command, byte, timeout, freshState, s
 ghost use Rattle.till.specs.Fields.{tillOf, framed, readIn, saidOf, turnOf};
 ghost use Rattle.till.specs.Private.{toldOf, failedBy, heardBy, sentBy};
 ghost use Rattle.till.specs.declared.Sent.the-variants.{Free, Held};
-ghost use Rattle.till.specs.declared.Word.the-variants.{Waiting, Answered};
+ghost use Rattle.till.specs.declared.Word.the-variants.{Waiting, Answered, NotSent};
 
 // A command that waits. Its frame is the first `count` bytes of a lent array.
 pub struct Attempt {
@@ -118,29 +120,38 @@ fn send(next: u8, frame: &mut [u8; 256], code: u8, content: &[u8], buf: &mut [u8
     ensures { λ r. ⌜ now (buf .exit) ≡ sets (now (buf .entry)) 0 (sentBy next code (now (content .entry)) .puts) ⌝ }
 {
     let built = wire::build::build_command(frame, next, code, content);
-    let Built::Frame(n) = built else {
-        return Said {
-            till: Till {
-                next,
-                sent: Sent::Free,
-            },
-            word: Word::NotSent,
-        };
-    };
-    let count = n as u8;
-    hand_out(&*frame, count, buf);
+    match built {
+        Built::Short => not_sent(next),
+        Built::Unsendable => not_sent(next),
+        Built::Frame(n) => {
+            let count = n as u8;
+            hand_out(&*frame, count, buf);
+            Said {
+                till: Till {
+                    next: seq_after(next),
+                    sent: Sent::Held(Attempt {
+                        seq: next,
+                        code,
+                        tries: 1,
+                        count,
+                        reader: reader::fresh(),
+                    }),
+                },
+                word: Word::Waiting(n),
+            }
+        }
+    }
+}
+
+fn not_sent(next: u8) -> Said
+    ensures { λ r. ⌜ r ≡ record { till = record { next = next; sent = Free }; word = NotSent } ⌝ }
+{
     Said {
         till: Till {
-            next: seq_after(next),
-            sent: Sent::Held(Attempt {
-                seq: next,
-                code,
-                tries: 1,
-                count,
-                reader: reader::fresh(),
-            }),
+            next,
+            sent: Sent::Free,
         },
-        word: Word::Waiting(n),
+        word: Word::NotSent,
     }
 }
 
@@ -159,7 +170,7 @@ fn hand_out(frame: &[u8], count: u8, buf: &mut [u8])
     ensures { λ r. ⌜ now (buf .exit) ≡ sets (now (buf .entry)) 0 (take count (now (frame .entry))) ⌝ }
 {
     let n = count as usize;
-    text::put_bytes(buf, 0, &frame[..n]);
+    text::put_bytes(buf, 0, &frame[0..n]);
 }
 
 pub fn byte(till: Till, frame: &[u8; 256], answer: &mut [u8; 256], b: u8, buf: &mut [u8]) -> Said
@@ -187,20 +198,19 @@ pub fn byte(till: Till, frame: &[u8; 256], answer: &mut [u8; 256], b: u8, buf: &
 fn hear(
     next: u8,
     attempt: Attempt,
-    frame: &[u8; 256],
+    frame: &[u8],
     answer: &mut [u8; 256],
     b: u8,
     buf: &mut [u8],
 ) -> Said
+    requires { ⌜ length (now frame) ≡ 256 ⌝ }
     ensures { λ r. ⌜ r ≡ toldOf (heardBy next attempt (now (frame .entry)) (now (answer .entry)) b) ⌝ }
     ensures { λ r. ⌜ now (answer .exit) ≡ readIn (now (answer .entry)) (heardBy next attempt (now (frame .entry)) (now (answer .entry)) b .state .pending) ⌝ }
     ensures { λ r. ⌜ now (buf .exit) ≡ sets (now (buf .entry)) 0 (heardBy next attempt (now (frame .entry)) (now (answer .entry)) b .puts) ⌝ }
 {
     let reader = attempt.reader;
-    if b == 0x15 {
-        if !reader.inside {
-            return failed_try(next, attempt, frame, buf);
-        }
+    if nak_outside(reader.inside, b) {
+        return failed_try(next, attempt, frame, buf);
     }
     let taken = reader::take_byte(Kind::Answer, reader, answer, b);
     let after = taken.reader;
@@ -225,7 +235,18 @@ fn hear(
     }
 }
 
+fn nak_outside(within: bool, b: u8) -> bool
+    ensures { λ r. ⌜ r ≡ cond within false (eqb b 0x15) ⌝ }
+{
+    if within {
+        return false;
+    }
+    b == 0x15
+}
+
+// One byte more, of an answer or beside one. The count is a byte: its caller asks.
 fn goes_on(next: u8, attempt: Attempt, reader: Reader) -> Said
+    ensures { λ r. ⌜ attempt .count < 256 ⌝ }
     ensures { λ r. ⌜ r ≡ record { till = record { next = next; sent = Held (record { seq = attempt .seq; code = attempt .code; tries = attempt .tries; count = attempt .count; reader = reader }) }; word = Waiting 0 } ⌝ }
 {
     Said {
@@ -264,7 +285,8 @@ fn answered(next: u8, answer: &[u8], n: usize, buf: &mut [u8]) -> Said
 }
 
 // The same frame again, up to the fifth try.
-fn failed_try(next: u8, attempt: Attempt, frame: &[u8; 256], buf: &mut [u8]) -> Said
+fn failed_try(next: u8, attempt: Attempt, frame: &[u8], buf: &mut [u8]) -> Said
+    requires { ⌜ length (now frame) ≡ 256 ⌝ }
     ensures { λ r. ⌜ r ≡ toldOf (failedBy next attempt (now (frame .entry))) ⌝ }
     ensures { λ r. ⌜ now (buf .exit) ≡ sets (now (buf .entry)) 0 (failedBy next attempt (now (frame .entry)) .puts) ⌝ }
 {
