@@ -5,6 +5,7 @@ use libc::STDOUT_FILENO;
 use till::Said;
 use till::Till;
 use till::Word;
+ghost use Prim.Native.Nat.{_<_};
 
 fn main() {
     let mut buf = io::large_buffer();
@@ -15,6 +16,7 @@ fn main() {
 fn events(s: &[u8]) {
     let mut frame = [0u8; 256];
     let mut answer = [0u8; 256];
+    let mut buf = [0u8; 256];
     let mut till = till::fresh();
     let mut i = 0;
     while i < s.len() {
@@ -26,7 +28,7 @@ fn events(s: &[u8]) {
             return;
         }
         let end = i + size;
-        till = event(till, &mut frame, &mut answer, &s[i..end]);
+        till = event(till, &mut frame, &mut answer, &s[i..end], &mut buf);
         i = end;
     }
 }
@@ -51,21 +53,31 @@ fn length(s: &[u8]) -> usize {
     wide(s[2]) + 4
 }
 
-fn wide(b: u8) -> usize {
+fn wide(b: u8) -> usize
+    ensures { λ r. ⌜ r < 256 ⌝ }
+{
     b as usize
 }
 
-// One event, which is whole: what is lent is the front of an array.
-fn event(till: Till, frame: &mut [u8; 256], answer: &mut [u8; 256], s: &[u8]) -> Till {
+// One event, which is whole. What is lent is the front of the buffer.
+fn event(
+    till: Till,
+    frame: &mut [u8; 256],
+    answer: &mut [u8; 256],
+    s: &[u8],
+    buf: &mut [u8],
+) -> Till {
     if s.len() < 2 {
         return till;
     }
-    let mut buf = [0u8; 256];
     let lent = wide(s[0]);
-    let said = happen(till, frame, answer, &s[1..], &mut buf[..lent]);
+    if buf.len() < lent {
+        return till;
+    }
+    let said = happen(till, frame, answer, &s[1..], &mut buf[0..lent]);
     let after = said.till;
     let word = said.word;
-    say(word, &buf);
+    say(word, &*buf);
     after
 }
 
@@ -100,7 +112,7 @@ fn say(word: Word, buf: &[u8]) {
         return;
     }
     if n <= buf.len() {
-        io::write_all(STDOUT_FILENO, &buf[..n]);
+        io::write_all(STDOUT_FILENO, &buf[0..n]);
     }
 }
 
