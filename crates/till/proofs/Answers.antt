@@ -2,7 +2,7 @@
 use mathlib.Core.Path.{_≡_, refl, sym, ap, _∙_, subst}
 use mathlib.Core.Bool.{Bool, true, false, cond, _&&_}
 use mathlib.Core.List.{List, [], _∷_, _++_, append-assoc}
-use Prim.Native.Nat.{ℕ, _+_, _≤_, _<_}
+use Prim.Native.Nat.{ℕ, _+_, _≤_}
 use native.Mathlib.Omega.{arith}
 use lib.Dec.{ltb, eqb}
 use lib.ListN.{length, replicate}
@@ -11,15 +11,14 @@ use Rattle.wire.specs.Frame.{Message, commandOf, frame, inner, sendable}
 use Rattle.wire.specs.Replies.{room}
 use Rattle.wire.specs.declared.Kind.the-variants.{Command, Answer}
 use Rattle.wire.proofs.Suits.{both}
-use Rattle.reader.specs.Reading.{Place, outside, inside, Event, nothing, brokenFrame, heard, read, Run, run, startsAnew}
+use Rattle.reader.specs.Reading.{Place, outside, Event, nothing, brokenFrame, heard, read, Run, run, startsAnew}
 use Rattle.reader.proofs.Walking.{run-append}
 use Rattle.reader.proofs.RoundTrip.{read-what-was-built}
 use Rattle.reader.proofs.History.{built-is-all-that-is-read}
 use Rattle.till.specs.Turns.{idle, State, freshState, Happening, command, byte, timeout, Turn, stays, gives, Meaning, failed, goesOn, answers, readAs, nakOutside, byteMeans, failsTry, onMeaning, onCommand, takes, sent}
 use Rattle.till.specs.History.{Lent, says, behind, seqOf, Open, none, one, Seen, watched}
 use Rattle.till.specs.Promises.{Came}
-use Rattle.till.specs.declared.Word.{Word}
-use Rattle.till.specs.declared.Word.the-variants.{Idle, Waiting, SendAgain, Answered, Unfinished, TooShort, NotSent}
+use Rattle.till.specs.declared.Word.the-variants.{Idle, Answered, TooShort, NotSent}
 use Rattle.till.proofs.Hearing.{heard-from}
 use Rattle.till.proofs.Seeing.{stateSeen, state-seen, failsBy}
 
@@ -114,22 +113,24 @@ byte-came k m frames since size b n big (goesOn place) e w = let z : _≡_ {A = 
 byte-came k m frames since size b n big (answers a) e w =
     let h = answers-heard (m .seq) (m .code) (run Answer outside since .place) b a e in
     let built = built-is-all-that-is-read Answer since b a (h .hears) in
-    let same : n ≡ length (a .content ++ a .status) = cc in
-    (record {
-      waiting = m;
-      frames = frames;
-      since = since;
-      waits = refl;
-      room = big;
-      last = b;
-      heard = refl;
-      answer = a;
-      can = built .0;
-      seq = h .seq-is;
-      code = h .code-is;
-      before = built .1 .0;
-      whole = built .1 .1;
-    }, (refl, same))
+    let same : n ≡ length (a .content ++ a .status) = cc in (
+      record {
+        waiting = m;
+        frames = frames;
+        since = since;
+        waits = refl;
+        room = big;
+        last = b;
+        heard = refl;
+        answer = a;
+        can = built .0;
+        seq = h .seq-is;
+        code = h .code-is;
+        before = built .1 .0;
+        whole = built .1 .1;
+      },
+      (refl, same),
+    )
 
 came-seen : (seen : Seen) (l : Lent) (n : ℕ) → says (stateSeen seen) l .word ≡ Answered n → Answer-came seen l (says (stateSeen seen) l) n
 came-seen seen l n = go (ltb (l .size) (room Command)) refl
@@ -142,6 +143,7 @@ came-seen seen l n = go (ltb (l .size) (room Command)) refl
     taken (one m frames since) (command code content) big w = let z : _≡_ {A = ℕ} 0 1 = cc in absurd (omega arith)
     taken (one m frames since) (byte b) big w = byte-came (seen .commands) m frames since (l .size) b n big (byteMeans (m .seq) (m .code) (run Answer outside since .place) b) refl w
     taken (one m frames since) timeout big w = absurd (no-failed (seqOf (seen .commands)) (m .seq) (m .code) (frame Command m) (length frames) n w)
+
     go : (s : Bool) → ltb (l .size) (room Command) ≡ s → cond s (stays TooShort (stateSeen seen)) (takes (stateSeen seen) (l .happens)) .word ≡ Answered n
         → Answer-came seen l (cond s (stays TooShort (stateSeen seen)) (takes (stateSeen seen) (l .happens))) n
     go true e w = let z : _≡_ {A = ℕ} 0 1 = cc in absurd (omega arith)

@@ -4,3 +4,4 @@ pub mod Outer
 pub mod Seeing
 pub mod Answers
 pub mod Tries
+pub mod Frames

@@ -2,22 +2,21 @@
 use mathlib.Core.Path.{_≡_, refl, sym, ap, _∙_, subst}
 use mathlib.Core.Bool.{Bool, true, false, cond, _&&_}
 use mathlib.Core.List.{List, [], _∷_, _++_}
-use Prim.Native.Nat.{ℕ, zero, suc, _+_, _%_, _≤_, _<_}
+use Prim.Native.Nat.{ℕ, _+_, _%_, _<_}
 use native.Mathlib.Omega.{arith}
-use native.Mathlib.Numerals.{add-one}
 use native.Mathlib.Decide.{decLt}
 use lib.Dec.{ltb, eqb}
-use lib.ListN.{length, replicate, length-append, length-replicate, replicate-append-replicate}
-use borrow.Author.Tests.{ltb-true, ltb-false, eqb-true, eqb-false, eq-eqb, ne-eqb}
+use lib.ListN.{length, replicate, length-append, replicate-append-replicate}
+use borrow.Author.Tests.{ltb-true, eqb-true, eqb-false}
 use Rattle.wire.specs.Frame.{Message, commandOf, frame, sendable}
 use Rattle.wire.specs.Replies.{room}
 use Rattle.wire.specs.declared.Kind.the-variants.{Command, Answer}
 use Rattle.reader.specs.Reading.{Place, outside, Event, nothing, brokenFrame, heard, read, Run, run}
 use Rattle.reader.proofs.Walking.{run-append}
-use Rattle.till.specs.Turns.{Pending, idle, waits, State, freshState, seqAfter, Happening, command, byte, timeout, Turn, stays, gives, sent, Meaning, failed, goesOn, answers, readAs, nakOutside, byteMeans, failsTry, onMeaning, onCommand, takes, hears}
+use Rattle.till.specs.Turns.{Pending, idle, waits, State, freshState, seqAfter, Happening, command, byte, timeout, Turn, stays, gives, sent, Meaning, failed, goesOn, answers, readAs, nakOutside, byteMeans, failsTry, onMeaning, onCommand, takes}
 use Rattle.till.specs.History.{Lent, says, behind, seqOf, Open, none, one, Seen, nothingSeen, noted, watch, watched}
 use Rattle.till.specs.Promises.{Tried}
-use Rattle.till.specs.declared.Word.the-variants.{Idle, Waiting, SendAgain, Answered, Unfinished, TooShort, NotSent}
+use Rattle.till.specs.declared.Word.the-variants.{SendAgain, Unfinished, TooShort, NotSent}
 
 -- the state that was seen
 abbrev pub pendingSeen : Open → Pending
@@ -96,9 +95,10 @@ module _ (k : ℕ) (m : Message) (frames : List (List ℕ)) (bytes : List ℕ) (
     where
       go : (s : Bool) → ltb (length frames) 5 ≡ s
           → Good here h (failsBy (seqOf k) (m .seq) (m .code) bytes-out (length frames) s)
-      go true e =
-          (ap (λ j. record { next = seqOf k; pending = waits (m .seq) (m .code) bytes-out j outside }) one-more,
-          record { can = tried .can; same = same-again; some = omega (arith, one-more); few = omega (arith, one-more, ltb-true (length frames) 5 e) })
+      go true e = (
+        ap (λ j. record { next = seqOf k; pending = waits (m .seq) (m .code) bytes-out j outside }) one-more,
+        record { can = tried .can; same = same-again; some = omega (arith, one-more); few = omega (arith, one-more, ltb-true (length frames) 5 e) },
+      )
       go false e = (refl, tt)
 
   byte-good : (b : ℕ) → Good here (byte b) (onMeaning (seqOf k) (m .seq) (m .code) bytes-out (length frames) (byteMeans (m .seq) (m .code) (run Answer outside bytes .place) b))
@@ -107,9 +107,11 @@ module _ (k : ℕ) (m : Message) (frames : List (List ℕ)) (bytes : List ℕ) (
       go : (x : Meaning) → byteMeans (m .seq) (m .code) (run Answer outside bytes .place) b ≡ x
           → Good here (byte b) (onMeaning (seqOf k) (m .seq) (m .code) bytes-out (length frames) x)
       go failed e = fails-good (byte b)
-      go (goesOn q) e =
-          (ap (λ z. record { next = seqOf k; pending = waits (m .seq) (m .code) bytes-out (length frames) z })
-          (goes-place (m .seq) (m .code) (run Answer outside bytes .place) b q e ∙ sym (place-more bytes b)), tried)
+      go (goesOn q) e = (
+        ap (λ z. record { next = seqOf k; pending = waits (m .seq) (m .code) bytes-out (length frames) z })
+            (goes-place (m .seq) (m .code) (run Answer outside bytes .place) b q e ∙ sym (place-more bytes b)),
+        tried,
+      )
       go (answers a) e = (refl, tt)
 
 -- a command, where none waits
@@ -120,9 +122,10 @@ sent-good k code content = go (sendable Command (commandOf (seqOf k) code conten
     go : (s : Bool) → sendable Command (commandOf (seqOf k) code content) ≡ s
         → Good (record { commands = k; last = none }) (command code content)
         (cond s (sent (seqOf k) (commandOf (seqOf k) code content)) (stays NotSent (record { next = seqOf k; pending = idle })))
-    go true e =
-        (ap (λ z. record { next = z; pending = waits (seqOf k) code (frame Command (commandOf (seqOf k) code content)) 1 outside }) (seq-up k),
-        record { can = e; same = refl; some = omega arith; few = omega arith })
+    go true e = (
+      ap (λ z. record { next = z; pending = waits (seqOf k) code (frame Command (commandOf (seqOf k) code content)) 1 outside }) (seq-up k),
+      record { can = e; same = refl; some = omega arith; few = omega arith },
+    )
     go false e = (refl, tt)
 
 takes-good : (seen : Seen) (h : Happening) → Sound (seen .last) → Good seen h (takes (stateSeen seen) h)

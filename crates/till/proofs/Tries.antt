@@ -3,7 +3,7 @@ use mathlib.Core.Path.{_≡_, refl, sym, ap, _∙_, subst}
 use mathlib.Core.Bool.{Bool, true, false, cond, _&&_, false≢true}
 use mathlib.Core.List.{List, [], _∷_, _++_}
 use mathlib.Core.Logic.{_⊎_, ⊎-elim, inl, inr}
-use Prim.Native.Nat.{ℕ, _+_, _%_, _≤_, _<_}
+use Prim.Native.Nat.{ℕ, _+_, _≤_}
 use native.Mathlib.Nat.{add-zero}
 use native.Mathlib.Omega.{arith}
 use lib.Dec.{ltb, leb}
@@ -17,10 +17,9 @@ use Rattle.wire.specs.declared.Sort.the-variants.{Mark as SeqOrCmd, Data}
 use Rattle.wire.proofs.Building.{sendable-command}
 use Rattle.reader.specs.Reading.{Place, outside, run}
 use Rattle.till.specs.Turns.{Pending, idle, waits, State, freshState, Happening, command, byte, timeout, Turn, stays, gives, sent, Meaning, failed, goesOn, answers, byteMeans, failsTry, onMeaning, onCommand, takes, hears}
-use Rattle.till.specs.History.{Lent, says, behind, seqOf, Open, none, one, Seen, watched, Mark, took, ended, tookOne, marksOf, marks, alternate, ends, failure, failureOf, failures}
+use Rattle.till.specs.History.{Lent, says, behind, seqOf, Open, none, one, Seen, watched, Mark, ended, marksOf, marks, alternate, ends, failure, failureOf, failures}
 use Rattle.till.specs.Promises.{Tried, GivenUp}
-use Rattle.till.specs.declared.Word.{Word}
-use Rattle.till.specs.declared.Word.the-variants.{Idle, Waiting, SendAgain, Answered, Unfinished, TooShort, NotSent}
+use Rattle.till.specs.declared.Word.the-variants.{Answered, Unfinished, TooShort, NotSent}
 use Rattle.till.proofs.Seeing.{stateSeen, Sound, state-seen, sound-seen, failsBy}
 
 -- at every moment the frames handed out for the command that waits are its own, one to five
@@ -71,6 +70,7 @@ given-seen seen l n sound = go (ltb (l .size) (room Command))
     taken (one m frames since) s (command code content) w = let z : _≡_ {A = ℕ} 0 1 = cc in absurd (omega arith)
     taken (one m frames since) s (byte b) w = given-byte (seen .commands) m frames since n s (byteMeans (m .seq) (m .code) (run Answer outside since .place) b) w
     taken (one m frames since) s timeout w = given-failed (seen .commands) m frames since n s w
+
     go : (s : Bool) → cond s (stays TooShort (stateSeen seen)) (takes (stateSeen seen) (l .happens)) .word ≡ Unfinished n → GivenUp seen n
     go true w = let z : _≡_ {A = ℕ} 0 1 = cc in absurd (omega arith)
     go false w = taken (seen .last) sound (l .happens) w
@@ -235,5 +235,6 @@ taken-exactly ls size code content big e =
   where
     k : ℕ
     k = watched ls .commands
+
     fits : Bool
     fits = mayStand SeqOrCmd code && leb (length content) 200 && every (mayStand Data) content
