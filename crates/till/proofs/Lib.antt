@@ -5,3 +5,5 @@ pub mod Seeing
 pub mod Answers
 pub mod Tries
 pub mod Frames
+pub mod Following
+pub mod Examples

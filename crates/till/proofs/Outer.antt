@@ -88,7 +88,7 @@ idle-stays t frame answer e =
     λ i. record { till = record { next = t .next; sent = same i }; word = Idle }
 
 -- a command that waits is never refused
-not-refused : (next seq code : ℕ) (bytes : List ℕ) (tries : ℕ) (m : Meaning) → refused (numberOf (onMeaning next seq code bytes tries m .word)) ≡ false
+pub not-refused : (next seq code : ℕ) (bytes : List ℕ) (tries : ℕ) (m : Meaning) → refused (numberOf (onMeaning next seq code bytes tries m .word)) ≡ false
 not-refused next seq code bytes tries failed = go (ltb tries 5)
   where
     go : (s : Bool) → refused (numberOf (cond s (gives SendAgain bytes (record { next = next; pending = waits seq code bytes (tries + 1) outside }))

@@ -44,7 +44,7 @@ seq-up k = go (eqb (seqOf k) 0xFF) refl
         by (no h) = absurd (eqb-false (seqOf k) 0xFF e (omega arith))
 
 -- a byte that goes on is read
-goes-place : (seq code : ℕ) (p : Place) (b : ℕ) (q : Place) → byteMeans seq code p b ≡ goesOn q → q ≡ read Answer p b .place
+pub goes-place : (seq code : ℕ) (p : Place) (b : ℕ) (q : Place) → byteMeans seq code p b ≡ goesOn q → q ≡ read Answer p b .place
 goes-place seq code p b q = go (nakOutside p b) (read Answer p b .event)
   where
     go : (n : Bool) (e : Event) → cond n failed (readAs seq code b (read Answer p b .place) e) ≡ goesOn q → q ≡ read Answer p b .place

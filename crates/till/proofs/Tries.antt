@@ -3,12 +3,12 @@ use mathlib.Core.Path.{_≡_, refl, sym, ap, _∙_, subst}
 use mathlib.Core.Bool.{Bool, true, false, cond, _&&_, false≢true}
 use mathlib.Core.List.{List, [], _∷_, _++_}
 use mathlib.Core.Logic.{_⊎_, ⊎-elim, inl, inr}
-use Prim.Native.Nat.{ℕ, _+_, _≤_}
+use Prim.Native.Nat.{ℕ, _+_, _≤_, _<_}
 use native.Mathlib.Nat.{add-zero}
 use native.Mathlib.Omega.{arith}
 use lib.Dec.{ltb, leb}
 use lib.ListN.{length, replicate}
-use borrow.Author.Tests.{ltb-true, ltb-false, le-ltb, le-leb}
+use borrow.Author.Tests.{ltb-true, ltb-false, lt-ltb, le-ltb, le-leb}
 use Rattle.wire.specs.Bytes.{mayStand, every}
 use Rattle.wire.specs.Frame.{Message, commandOf, frame, sendable}
 use Rattle.wire.specs.Replies.{room}
@@ -17,7 +17,7 @@ use Rattle.wire.specs.declared.Sort.the-variants.{Mark as SeqOrCmd, Data}
 use Rattle.wire.proofs.Building.{sendable-command}
 use Rattle.reader.specs.Reading.{Place, outside, run}
 use Rattle.till.specs.Turns.{Pending, idle, waits, State, freshState, Happening, command, byte, timeout, Turn, stays, gives, sent, Meaning, failed, goesOn, answers, byteMeans, failsTry, onMeaning, onCommand, takes, hears}
-use Rattle.till.specs.History.{Lent, says, behind, seqOf, Open, none, one, Seen, watched, Mark, ended, marksOf, marks, alternate, ends, failure, failureOf, failures}
+use Rattle.till.specs.History.{Lent, says, behind, seqOf, Open, none, one, Seen, nothingSeen, onWord, noted, watch, watched, Mark, ended, marksOf, marks, alternate, ends, failure, failureOf, failures}
 use Rattle.till.specs.Promises.{Tried, GivenUp}
 use Rattle.till.specs.declared.Word.the-variants.{Answered, Unfinished, TooShort, NotSent}
 use Rattle.till.proofs.Seeing.{stateSeen, Sound, state-seen, sound-seen, failsBy}
@@ -238,3 +238,23 @@ taken-exactly ls size code content big e =
 
     fits : Bool
     fits = mayStand SeqOrCmd code && leb (length content) 200 && every (mayStand Data) content
+
+-- what is seen with one event more
+watch-snoc : (ls : List Lent) (seen : Seen) (s : State) (l : Lent) → watch seen s (ls ++ l ∷ []) ≡ noted (watch seen s ls) (l .happens) (says (behind s ls) l)
+watch-snoc [] seen s l = refl
+watch-snoc (x ∷ ls) seen s l = watch-snoc ls (noted seen (x .happens) (says s x)) (says s x .state) l
+
+-- behind Unfinished, and behind Answered, no command waits
+pub unfinished-over : (ls : List Lent) (l : Lent) (n : ℕ) → says (behind freshState ls) l .word ≡ Unfinished n → watched (ls ++ l ∷ []) .last ≡ none
+unfinished-over ls l n e =
+    ap (λ (z : Seen). z .last) (watch-snoc ls nothingSeen freshState l)
+    ∙ ap (λ w. onWord (watched ls) (l .happens) w (says (behind freshState ls) l .puts) .last) e
+
+pub answered-over : (ls : List Lent) (l : Lent) (n : ℕ) → says (behind freshState ls) l .word ≡ Answered n → watched (ls ++ l ∷ []) .last ≡ none
+answered-over ls l n e =
+    ap (λ (z : Seen). z .last) (watch-snoc ls nothingSeen freshState l)
+    ∙ ap (λ w. onWord (watched ls) (l .happens) w (says (behind freshState ls) l .puts) .last) e
+
+-- 7 comes before all else, and changes nothing
+pub short-first : (s : State) (size : ℕ) (h : Happening) → size < 210 → hears size s h ≡ stays TooShort s
+short-first s size h e = ap (λ short. cond short (stays TooShort s) (takes s h)) (lt-ltb size 210 e)
