@@ -7,50 +7,57 @@ use till::Till;
 use till::Word;
 ghost use Prim.Native.Nat.{_<_};
 
+// Events are read one by one to the end of the input. The count of turns only shows that the loop ends.
 fn main() {
-    let mut buf = io::large_buffer();
-    let n = io::read_full(STDIN_FILENO, &mut buf);
-    events(&buf[..n]);
-}
-
-fn events(s: &[u8]) {
     let mut frame = [0u8; 256];
     let mut answer = [0u8; 256];
+    let mut event = [0u8; 259];
     let mut buf = [0u8; 256];
     let mut till = till::fresh();
-    let mut i = 0;
-    while i < s.len() {
-        let size = length(&s[i..]);
-        if size == 0 {
+    let mut left: u64 = 0xFFFFFFFFFFFFFFFF;
+    while 0 < left {
+        let n = next_event(&mut event);
+        if n == 0 {
             return;
         }
-        if s.len() - i < size {
-            return;
-        }
-        let end = i + size;
-        till = event(till, &mut frame, &mut answer, &s[i..end], &mut buf);
-        i = end;
+        till = tell(till, &mut frame, &mut answer, &event, n, &mut buf);
+        left -= 1;
     }
 }
 
-// The length of the first event, or 0 where it is cut off or none.
-fn length(s: &[u8]) -> usize {
-    if s.len() < 2 {
+// The next event at the front of the buffer, and its length: 0 where the input ends, or what comes is none.
+fn next_event(event: &mut [u8]) -> usize {
+    if event.len() < 259 {
         return 0;
     }
-    if s[1] == b'T' {
+    if io::read_full(STDIN_FILENO, &mut event[0..2]) < 2 {
+        return 0;
+    }
+    if event[1] == b'T' {
         return 2;
     }
-    if s.len() < 3 {
+    if io::read_full(STDIN_FILENO, &mut event[2..3]) < 1 {
         return 0;
     }
-    if s[1] == b'B' {
+    if event[1] == b'B' {
         return 3;
     }
-    if s[1] != b'C' {
+    if event[1] != b'C' {
         return 0;
     }
-    wide(s[2]) + 4
+    command_data(event)
+}
+
+// CMD and the data, behind the number of data bytes.
+fn command_data(event: &mut [u8]) -> usize {
+    if event.len() < 259 {
+        return 0;
+    }
+    let end = wide(event[2]) + 4;
+    if io::read_full(STDIN_FILENO, &mut event[3..end]) < end - 3 {
+        return 0;
+    }
+    end
 }
 
 fn wide(b: u8) -> usize
@@ -59,22 +66,26 @@ fn wide(b: u8) -> usize
     b as usize
 }
 
-// One event, which is whole. What is lent is the front of the buffer.
-fn event(
+// One event, its first n bytes. What is lent is the front of the buffer.
+fn tell(
     till: Till,
     frame: &mut [u8; 256],
     answer: &mut [u8; 256],
-    s: &[u8],
+    event: &[u8],
+    n: usize,
     buf: &mut [u8],
 ) -> Till {
-    if s.len() < 2 {
+    if n < 2 {
         return till;
     }
-    let lent = wide(s[0]);
+    if event.len() < n {
+        return till;
+    }
+    let lent = wide(event[0]);
     if buf.len() < lent {
         return till;
     }
-    let said = happen(till, frame, answer, &s[1..], &mut buf[0..lent]);
+    let said = happen(till, frame, answer, &event[1..n], &mut buf[0..lent]);
     let after = said.till;
     let word = said.word;
     say(word, &*buf);
@@ -89,9 +100,6 @@ fn happen(
     buf: &mut [u8],
 ) -> Said {
     if s.len() < 2 {
-        return till::timeout(till, &*frame, buf);
-    }
-    if s[0] == b'T' {
         return till::timeout(till, &*frame, buf);
     }
     if s[0] == b'B' {
