@@ -185,50 +185,43 @@ pub fn byte(till: Till, frame: &[u8; 256], answer: &mut [u8; 256], b: u8, buf: &
         };
     }
     let sent = till.sent;
-    let Sent::Held(attempt) = sent else {
+    let Sent::Held(a) = sent else {
         return Said {
             till,
             word: Word::Idle,
         };
     };
-    hear(till.next, attempt, frame, answer, b, buf)
+    hear(till.next, a, frame, answer, b, buf)
 }
 
 // A byte to a command that waits.
-fn hear(
-    next: u8,
-    attempt: Attempt,
-    frame: &[u8],
-    answer: &mut [u8; 256],
-    b: u8,
-    buf: &mut [u8],
-) -> Said
+fn hear(next: u8, a: Attempt, frame: &[u8], answer: &mut [u8; 256], b: u8, buf: &mut [u8]) -> Said
     requires { ⌜ length (now frame) ≡ 256 ⌝ }
-    ensures { λ r. ⌜ r ≡ toldOf (heardBy next attempt (now (frame .entry)) (now (answer .entry)) b) ⌝ }
-    ensures { λ r. ⌜ now (answer .exit) ≡ readIn (now (answer .entry)) (heardBy next attempt (now (frame .entry)) (now (answer .entry)) b .state .pending) ⌝ }
-    ensures { λ r. ⌜ now (buf .exit) ≡ sets (now (buf .entry)) 0 (heardBy next attempt (now (frame .entry)) (now (answer .entry)) b .puts) ⌝ }
+    ensures { λ r. ⌜ r ≡ toldOf (heardBy next a (now (frame .entry)) (now (answer .entry)) b) ⌝ }
+    ensures { λ r. ⌜ now (answer .exit) ≡ readIn (now (answer .entry)) (heardBy next a (now (frame .entry)) (now (answer .entry)) b .state .pending) ⌝ }
+    ensures { λ r. ⌜ now (buf .exit) ≡ sets (now (buf .entry)) 0 (heardBy next a (now (frame .entry)) (now (answer .entry)) b .puts) ⌝ }
 {
-    let reader = attempt.reader;
+    let reader = a.reader;
     if nak_outside(reader.inside, b) {
-        return failed_try(next, attempt, frame, buf);
+        return failed_try(next, a, frame, buf);
     }
     let taken = reader::take_byte(Kind::Answer, reader, answer, b);
     let after = taken.reader;
     let heard = taken.heard;
     match heard {
-        Heard::Nothing => goes_on(next, attempt, after),
+        Heard::Nothing => goes_on(next, a, after),
         Heard::Broken => {
             if b == 0x01 {
-                return goes_on(next, attempt, after);
+                return goes_on(next, a, after);
             }
-            failed_try(next, attempt, frame, buf)
+            failed_try(next, a, frame, buf)
         }
         Heard::Whole { seq, code, count } => {
-            if seq != attempt.seq {
-                return failed_try(next, attempt, frame, buf);
+            if seq != a.seq {
+                return failed_try(next, a, frame, buf);
             }
-            if code != attempt.code {
-                return failed_try(next, attempt, frame, buf);
+            if code != a.code {
+                return failed_try(next, a, frame, buf);
             }
             answered(next, &*answer, count, buf)
         }
@@ -245,18 +238,18 @@ fn nak_outside(within: bool, b: u8) -> bool
 }
 
 // One byte more, of an answer or beside one. The count is a byte: its caller asks.
-fn goes_on(next: u8, attempt: Attempt, reader: Reader) -> Said
-    ensures { λ r. ⌜ attempt .count < 256 ⌝ }
-    ensures { λ r. ⌜ r ≡ record { till = record { next = next; sent = Held (record { seq = attempt .seq; code = attempt .code; tries = attempt .tries; count = attempt .count; reader = reader }) }; word = Waiting 0 } ⌝ }
+fn goes_on(next: u8, a: Attempt, reader: Reader) -> Said
+    ensures { λ r. ⌜ a .count < 256 ⌝ }
+    ensures { λ r. ⌜ r ≡ record { till = record { next = next; sent = Held (record { seq = a .seq; code = a .code; tries = a .tries; count = a .count; reader = reader }) }; word = Waiting 0 } ⌝ }
 {
     Said {
         till: Till {
             next,
             sent: Sent::Held(Attempt {
-                seq: attempt.seq,
-                code: attempt.code,
-                tries: attempt.tries,
-                count: attempt.count,
+                seq: a.seq,
+                code: a.code,
+                tries: a.tries,
+                count: a.count,
                 reader,
             }),
         },
@@ -285,21 +278,21 @@ fn answered(next: u8, answer: &[u8], n: usize, buf: &mut [u8]) -> Said
 }
 
 // The same frame again, up to the fifth try.
-fn failed_try(next: u8, attempt: Attempt, frame: &[u8], buf: &mut [u8]) -> Said
+fn failed_try(next: u8, a: Attempt, frame: &[u8], buf: &mut [u8]) -> Said
     requires { ⌜ length (now frame) ≡ 256 ⌝ }
-    ensures { λ r. ⌜ r ≡ toldOf (failedBy next attempt (now (frame .entry))) ⌝ }
-    ensures { λ r. ⌜ now (buf .exit) ≡ sets (now (buf .entry)) 0 (failedBy next attempt (now (frame .entry)) .puts) ⌝ }
+    ensures { λ r. ⌜ r ≡ toldOf (failedBy next a (now (frame .entry))) ⌝ }
+    ensures { λ r. ⌜ now (buf .exit) ≡ sets (now (buf .entry)) 0 (failedBy next a (now (frame .entry)) .puts) ⌝ }
 {
-    let tries = attempt.tries;
-    let count = attempt.count;
+    let tries = a.tries;
+    let count = a.count;
     if tries < 5 {
         hand_out(frame, count, buf);
         return Said {
             till: Till {
                 next,
                 sent: Sent::Held(Attempt {
-                    seq: attempt.seq,
-                    code: attempt.code,
+                    seq: a.seq,
+                    code: a.code,
                     tries: tries + 1,
                     count,
                     reader: reader::fresh(),
@@ -328,11 +321,11 @@ pub fn timeout(till: Till, frame: &[u8; 256], buf: &mut [u8]) -> Said
         };
     }
     let sent = till.sent;
-    let Sent::Held(attempt) = sent else {
+    let Sent::Held(a) = sent else {
         return Said {
             till,
             word: Word::Idle,
         };
     };
-    failed_try(till.next, attempt, frame, buf)
+    failed_try(till.next, a, frame, buf)
 }

@@ -24,7 +24,7 @@ returns : tie.Need-returns
 returns c =
     let s = c .before .before .before .before .before .before .before .before in
     let a = s .args in
-    says-again (a .next) (a .attempt) (now (a .frame)) (c .before .before .before .before .before .if1 .taken) (s .pre) (omega arith) _ (c .fresh .ensures) (now (a .buf)) _ (c .before .before .before .hand-out .ensures)
+    says-again (a .next) (a .a) (now (a .frame)) (c .before .before .before .before .before .if1 .taken) (s .pre) (omega arith) _ (c .fresh .ensures) (now (a .buf)) _ (c .before .before .before .hand-out .ensures)
 
 cast-t20 : tie.Need-cast-t20
 cast-t20 c = search needs
@@ -32,7 +32,7 @@ cast-t20 c = search needs
 returns-2 : tie.Need-returns-2
 returns-2 c =
     let a = c .before .before .before .args in
-    says-unfinished (a .next) (a .attempt) (now (a .frame)) (c .if1 .left) (now (a .buf))
+    says-unfinished (a .next) (a .a) (now (a .frame)) (c .if1 .left) (now (a .buf))
 
 pub failed-try-spec : {M : Type 1} → statement M
 failed-try-spec =

@@ -27,9 +27,9 @@ returns c =
     let s = c .before .before .before .before .before .before .before .before .before in
     let a = s .args in
     told (now (a .answer)) _ (now (a .buf)) _ _ _ _
-    (hear-nak (a .next) (a .attempt) (now (a .frame)) (now (a .answer)) (a .b) (nak-is (a .attempt .reader) (now (a .answer)) (a .b) ∙ sym (c .before .before .before .before .before .nak-outside .ensures) ∙ c .before .before .before .before .if1 .taken))
+    (hear-nak (a .next) (a .a) (now (a .frame)) (now (a .answer)) (a .b) (nak-is (a .a .reader) (now (a .answer)) (a .b) ∙ sym (c .before .before .before .before .before .nak-outside .ensures) ∙ c .before .before .before .before .if1 .taken))
     (c .before .before .failed-try .ensures .0)
-    (fails-keeps (a .next) (a .attempt) (now (a .frame)) (now (a .answer)))
+    (fails-keeps (a .next) (a .a) (now (a .frame)) (now (a .answer)))
     (c .before .before .failed-try .ensures .1)
 
 take-byte-requires : tie.Need-take-byte-requires
@@ -52,11 +52,11 @@ returns-2 c =
     let s = c .before .before .before .before .before .before .before .before .before .before .before .before in
     let a = s .args in
     let t = c .before .before .before .before .before .take-byte in
-    let n = nak-is (a .attempt .reader) (now (a .answer)) (a .b) ∙ sym (c .before .before .before .before .before .before .before .before .nak-outside .ensures) ∙ c .before .before .before .before .before .before .before .if1 .left in
+    let n = nak-is (a .a .reader) (now (a .answer)) (a .b) ∙ sym (c .before .before .before .before .before .before .before .before .nak-outside .ensures) ∙ c .before .before .before .before .before .before .before .if1 .left in
     let h = told-broken _ (ap (λ (z : Taken). z .heard) (sym (t .ensures .0)) ∙ c .before .before .enum-told2 .given .1) in
     told (now (a .answer)) _ (now (a .buf)) _ _ _ _
-    (hear-anew (a .next) (a .attempt) (now (a .frame)) (now (a .answer)) (a .b) n h (c .before .if2 .taken))
-    (c .goes-on2 .ensures .1 ∙ goes-on (a .next) (a .attempt) (now (a .frame)) (now (a .answer)) (a .b) (s .pre) (c .goes-on2 .ensures .0) (read Answer (placeOf (a .attempt .reader) (now (a .answer))) (a .b) .place) (t .result) (ap (λ (z : Taken). z .reader) (t .ensures .0)))
+    (hear-anew (a .next) (a .a) (now (a .frame)) (now (a .answer)) (a .b) n h (c .before .if2 .taken))
+    (c .goes-on2 .ensures .1 ∙ goes-on (a .next) (a .a) (now (a .frame)) (now (a .answer)) (a .b) (s .pre) (c .goes-on2 .ensures .0) (read Answer (placeOf (a .a .reader) (now (a .answer))) (a .b) .place) (t .result) (ap (λ (z : Taken). z .reader) (t .ensures .0)))
     (t .ensures .1) refl
 
 failed-try-requires-2 : tie.Need-failed-try-requires-2
@@ -76,13 +76,13 @@ returns-3 c =
     let s = c .before .before .before .before .before .before .before .before .before .before .before .before .before .before .before .before .before in
     let a = s .args in
     let t = c .before .before .before .before .before .before .before .before .before .before .take-byte in
-    let n = nak-is (a .attempt .reader) (now (a .answer)) (a .b) ∙ sym (c .before .before .before .before .before .before .before .before .before .before .before .before .before .nak-outside .ensures) ∙ c .before .before .before .before .before .before .before .before .before .before .before .before .if1 .left in
+    let n = nak-is (a .a .reader) (now (a .answer)) (a .b) ∙ sym (c .before .before .before .before .before .before .before .before .before .before .before .before .before .nak-outside .ensures) ∙ c .before .before .before .before .before .before .before .before .before .before .before .before .if1 .left in
     let w = told-whole _ _ _ _ (ap (λ (z : Taken). z .heard) (sym (t .ensures .0)) ∙ c .before .before .before .before .before .before .before .heard .given .1) in
-    let f = heard-from Answer (placeOf (a .attempt .reader) (now (a .answer))) (a .b) (w .message) (w .is) in
+    let f = heard-from Answer (placeOf (a .a .reader) (now (a .answer))) (a .b) (w .message) (w .is) in
     told (now (a .answer)) _ (now (a .buf)) _ _ _ _
-    (hear-other-seq (a .next) (a .attempt) (now (a .frame)) (now (a .answer)) (a .b) n (w .message) (w .is) (λ e. c .before .before .before .before .if3 .taken (sym (w .seq-is) ∙ e)))
+    (hear-other-seq (a .next) (a .a) (now (a .frame)) (now (a .answer)) (a .b) n (w .message) (w .is) (λ e. c .before .before .before .before .if3 .taken (sym (w .seq-is) ∙ e)))
     (c .before .before .failed-try3 .ensures .0)
-    (kept-outside (now (a .answer)) _ _ (t .ensures .1) (f .left) ∙ fails-keeps (a .next) (a .attempt) (now (a .frame)) (now (a .answer)))
+    (kept-outside (now (a .answer)) _ _ (t .ensures .1) (f .left) ∙ fails-keeps (a .next) (a .a) (now (a .frame)) (now (a .answer)))
     (c .before .before .failed-try3 .ensures .1)
 
 failed-try-requires-4 : tie.Need-failed-try-requires-4
@@ -96,13 +96,13 @@ returns-4 c =
     let s = c .before .before .before .before .before .before .before .before .before .before .before .before .before .before .before .before .before .before .before in
     let a = s .args in
     let t = c .before .before .before .before .before .before .before .before .before .before .before .before .take-byte in
-    let n = nak-is (a .attempt .reader) (now (a .answer)) (a .b) ∙ sym (c .before .before .before .before .before .before .before .before .before .before .before .before .before .before .before .nak-outside .ensures) ∙ c .before .before .before .before .before .before .before .before .before .before .before .before .before .before .if1 .left in
+    let n = nak-is (a .a .reader) (now (a .answer)) (a .b) ∙ sym (c .before .before .before .before .before .before .before .before .before .before .before .before .before .before .before .nak-outside .ensures) ∙ c .before .before .before .before .before .before .before .before .before .before .before .before .before .before .if1 .left in
     let w = told-whole _ _ _ _ (ap (λ (z : Taken). z .heard) (sym (t .ensures .0)) ∙ c .before .before .before .before .before .before .before .before .before .heard .given .1) in
-    let f = heard-from Answer (placeOf (a .attempt .reader) (now (a .answer))) (a .b) (w .message) (w .is) in
+    let f = heard-from Answer (placeOf (a .a .reader) (now (a .answer))) (a .b) (w .message) (w .is) in
     told (now (a .answer)) _ (now (a .buf)) _ _ _ _
-    (hear-other-code (a .next) (a .attempt) (now (a .frame)) (now (a .answer)) (a .b) n (w .message) (w .is) (w .seq-is ∙ c .before .before .before .before .before .before .if3 .left) (λ e. c .before .before .before .before .if4 .taken (sym (w .code-is) ∙ e)))
+    (hear-other-code (a .next) (a .a) (now (a .frame)) (now (a .answer)) (a .b) n (w .message) (w .is) (w .seq-is ∙ c .before .before .before .before .before .before .if3 .left) (λ e. c .before .before .before .before .if4 .taken (sym (w .code-is) ∙ e)))
     (c .before .before .failed-try4 .ensures .0)
-    (kept-outside (now (a .answer)) _ _ (t .ensures .1) (f .left) ∙ fails-keeps (a .next) (a .attempt) (now (a .frame)) (now (a .answer)))
+    (kept-outside (now (a .answer)) _ _ (t .ensures .1) (f .left) ∙ fails-keeps (a .next) (a .a) (now (a .frame)) (now (a .answer)))
     (c .before .before .failed-try4 .ensures .1)
 
 answered-requires : tie.Need-answered-requires
@@ -111,21 +111,21 @@ answered-requires c κs =
     let a = s .args in
     let t = c .before .before .before .before .before .before .before .before .before .before .before .take-byte in
     let w = told-whole _ _ _ _ (ap (λ (z : Taken). z .heard) (sym (t .ensures .0)) ∙ c .before .before .before .before .before .before .before .before .heard .given .1) in
-    let f = heard-from Answer (placeOf (a .attempt .reader) (now (a .answer))) (a .b) (w .message) (w .is) in
+    let f = heard-from Answer (placeOf (a .a .reader) (now (a .answer))) (a .b) (w .message) (w .is) in
     let same = kept-outside (now (a .answer)) _ _ (t .ensures .1) (f .left) in
     let size : length (now (a .answer)) ≡ 256 = omega (arith, ap length same) in
-    omega (arith, ap length same, w .size, stands (a .attempt .reader) (now (a .answer)) (a .b) (w .message) size (omega (arith, c .before .before .before .before .before .before .struct-known .given .1 .1 .1 .1)) (w .is) .room)
+    omega (arith, ap length same, w .size, stands (a .a .reader) (now (a .answer)) (a .b) (w .message) size (omega (arith, c .before .before .before .before .before .before .struct-known .given .1 .1 .1 .1)) (w .is) .room)
 
 returns-5 : tie.Need-returns-5
 returns-5 c =
     let s = c .before .before .before .before .before .before .before .before .before .before .before in
     let a = s .args in
     let t = c .before .before .before .before .take-byte in
-    let n = nak-is (a .attempt .reader) (now (a .answer)) (a .b) ∙ sym (c .before .before .before .before .before .before .before .nak-outside .ensures) ∙ c .before .before .before .before .before .before .if1 .left in
+    let n = nak-is (a .a .reader) (now (a .answer)) (a .b) ∙ sym (c .before .before .before .before .before .before .before .nak-outside .ensures) ∙ c .before .before .before .before .before .before .if1 .left in
     let h = told-nothing _ (ap (λ (z : Taken). z .heard) (sym (t .ensures .0)) ∙ c .before .enum-told .given .1) in
     told (now (a .answer)) _ (now (a .buf)) _ _ _ _
-    (hear-nothing (a .next) (a .attempt) (now (a .frame)) (now (a .answer)) (a .b) n h)
-    (c .goes-on .ensures .1 ∙ goes-on (a .next) (a .attempt) (now (a .frame)) (now (a .answer)) (a .b) (s .pre) (c .goes-on .ensures .0) (read Answer (placeOf (a .attempt .reader) (now (a .answer))) (a .b) .place) (t .result) (ap (λ (z : Taken). z .reader) (t .ensures .0)))
+    (hear-nothing (a .next) (a .a) (now (a .frame)) (now (a .answer)) (a .b) n h)
+    (c .goes-on .ensures .1 ∙ goes-on (a .next) (a .a) (now (a .frame)) (now (a .answer)) (a .b) (s .pre) (c .goes-on .ensures .0) (read Answer (placeOf (a .a .reader) (now (a .answer))) (a .b) .place) (t .result) (ap (λ (z : Taken). z .reader) (t .ensures .0)))
     (t .ensures .1) refl
 
 same-length-4 : tie.Need-same-length-4
@@ -136,12 +136,12 @@ returns-6 c =
     let s = c .before .before .before .before .before .before .before .before .before .before .before .before .before .before .before in
     let a = s .args in
     let t = c .before .before .before .before .before .before .before .before .take-byte in
-    let n = nak-is (a .attempt .reader) (now (a .answer)) (a .b) ∙ sym (c .before .before .before .before .before .before .before .before .before .before .before .nak-outside .ensures) ∙ c .before .before .before .before .before .before .before .before .before .before .if1 .left in
+    let n = nak-is (a .a .reader) (now (a .answer)) (a .b) ∙ sym (c .before .before .before .before .before .before .before .before .before .before .before .nak-outside .ensures) ∙ c .before .before .before .before .before .before .before .before .before .before .if1 .left in
     let h = told-broken _ (ap (λ (z : Taken). z .heard) (sym (t .ensures .0)) ∙ c .before .before .before .before .before .enum-told2 .given .1) in
     told (now (a .answer)) _ (now (a .buf)) _ _ _ _
-    (hear-broken (a .next) (a .attempt) (now (a .frame)) (now (a .answer)) (a .b) n h (c .before .before .before .before .if2 .left))
+    (hear-broken (a .next) (a .a) (now (a .frame)) (now (a .answer)) (a .b) n h (c .before .before .before .before .if2 .left))
     (c .before .before .failed-try2 .ensures .0)
-    (kept-outside (now (a .answer)) _ _ (t .ensures .1) (broken-outside Answer (placeOf (a .attempt .reader) (now (a .answer))) (a .b) (ne-eqb (a .b) 0x01 (c .before .before .before .before .if2 .left)) h) ∙ fails-keeps (a .next) (a .attempt) (now (a .frame)) (now (a .answer)))
+    (kept-outside (now (a .answer)) _ _ (t .ensures .1) (broken-outside Answer (placeOf (a .a .reader) (now (a .answer))) (a .b) (ne-eqb (a .b) 0x01 (c .before .before .before .before .if2 .left)) h) ∙ fails-keeps (a .next) (a .a) (now (a .frame)) (now (a .answer)))
     (c .before .before .failed-try2 .ensures .1)
 
 same-length-5 : tie.Need-same-length-5
@@ -152,15 +152,15 @@ returns-7 c =
     let s = c .before .before .before .before .before .before .before .before .before .before .before .before .before .before .before .before .before .before .before .before .before in
     let a = s .args in
     let t = c .before .before .before .before .before .before .before .before .before .before .before .before .before .before .take-byte in
-    let n = nak-is (a .attempt .reader) (now (a .answer)) (a .b) ∙ sym (c .before .before .before .before .before .before .before .before .before .before .before .before .before .before .before .before .before .nak-outside .ensures) ∙ c .before .before .before .before .before .before .before .before .before .before .before .before .before .before .before .before .if1 .left in
+    let n = nak-is (a .a .reader) (now (a .answer)) (a .b) ∙ sym (c .before .before .before .before .before .before .before .before .before .before .before .before .before .before .before .before .before .nak-outside .ensures) ∙ c .before .before .before .before .before .before .before .before .before .before .before .before .before .before .before .before .if1 .left in
     let w = told-whole _ _ _ _ (ap (λ (z : Taken). z .heard) (sym (t .ensures .0)) ∙ c .before .before .before .before .before .before .before .before .before .before .before .heard .given .1) in
-    let f = heard-from Answer (placeOf (a .attempt .reader) (now (a .answer))) (a .b) (w .message) (w .is) in
+    let f = heard-from Answer (placeOf (a .a .reader) (now (a .answer))) (a .b) (w .message) (w .is) in
     let same = kept-outside (now (a .answer)) _ _ (t .ensures .1) (f .left) in
     let size : length (now (a .answer)) ≡ 256 = omega (arith, ap length same) in
-    let whole = stands (a .attempt .reader) (now (a .answer)) (a .b) (w .message) size (omega (arith, c .before .before .before .before .before .before .before .before .before .struct-known .given .1 .1 .1 .1)) (w .is) in
+    let whole = stands (a .a .reader) (now (a .answer)) (a .b) (w .message) size (omega (arith, c .before .before .before .before .before .before .before .before .before .struct-known .given .1 .1 .1 .1)) (w .is) in
     let put = answered (a .next) (now (a .answer)) (w .message) whole _ (w .size) (c .before .before .answered .result) (now (a .buf)) _ (c .before .before .answered .ensures .0) (c .before .before .answered .ensures .1 ∙ both-in (now (a .buf)) (now (a .answer)) _ (c .before .before .before .before .before .before .before .before .before .before .before .heard .given .0 .1 .1 .0) same) in
     told (now (a .answer)) _ (now (a .buf)) _ _ _ _
-    (hear-answer (a .next) (a .attempt) (now (a .frame)) (now (a .answer)) (a .b) n (w .message) (w .is) (w .seq-is ∙ c .before .before .before .before .before .before .before .before .if3 .left) (w .code-is ∙ c .before .before .before .before .before .before .if4 .left))
+    (hear-answer (a .next) (a .a) (now (a .frame)) (now (a .answer)) (a .b) n (w .message) (w .is) (w .seq-is ∙ c .before .before .before .before .before .before .before .before .if3 .left) (w .code-is ∙ c .before .before .before .before .before .before .if4 .left))
     (put .0) same (put .1)
 
 pub hear-spec : {M : Type 1} → statement M
