@@ -19,6 +19,7 @@ use Rattle.reader.proofs.Running.{bytesOf, place-back, read-room}
 use Rattle.till.specs.Words.{numberOf}
 use Rattle.till.specs.Turns.{Pending, idle, waits, State, freshState, Happening, command, byte, timeout, Turn, stays, sent, Meaning, failed, goesOn, answers, byteMeans, onMeaning}
 use Rattle.till.specs.Fields.{pendingOf, stateOf, tillOf, framed, readIn, refused, saidOf, turnOf}
+use Rattle.till.specs.Promises.{Bytes}
 use Rattle.till.specs.Private.{failedBy, heardBy, sentBy}
 use Rattle.till.specs.declared.Attempt.{Attempt}
 use Rattle.till.specs.declared.Sent.{Sent}
@@ -28,11 +29,6 @@ use Rattle.till.specs.declared.Word.{Word}
 use Rattle.till.specs.declared.Word.the-variants.{Idle, TooShort, NotSent}
 use Rattle.till.proofs.Outer.{read-same, framed-same, not-refused, too-short, byte-idle, byte-held, timeout-idle, timeout-held, command-free, command-held}
 use Rattle.till.proofs.Seeing.{failsBy, goes-place}
-
--- the fields are bytes, as their types say
-abbrev pub Bytes : Sent → Type 0
-Bytes Free = Unit {0}
-Bytes (Held a) = (a .count < 256) × (a .reader .count < 256)
 
 -- what stands in the arrays has room there
 abbrev Roomy : Pending → Type 0

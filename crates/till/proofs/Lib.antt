@@ -4,6 +4,7 @@ pub mod Outer
 pub mod Seeing
 pub mod Answers
 pub mod Tries
+pub mod Room
 pub mod Frames
 pub mod Following
 pub mod Examples

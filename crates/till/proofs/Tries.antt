@@ -19,7 +19,8 @@ use Rattle.reader.specs.Reading.{Place, outside, run}
 use Rattle.till.specs.Turns.{Pending, idle, waits, State, freshState, Happening, command, byte, timeout, Turn, stays, gives, sent, Meaning, failed, goesOn, answers, byteMeans, failsTry, onMeaning, onCommand, takes, hears}
 use Rattle.till.specs.History.{Lent, says, behind, seqOf, Open, none, one, Seen, nothingSeen, onWord, noted, watch, watched, Mark, ended, marksOf, marks, alternate, ends, failure, failureOf, failures}
 use Rattle.till.specs.Promises.{Tried, GivenUp}
-use Rattle.till.specs.declared.Word.the-variants.{Answered, Unfinished, TooShort, NotSent}
+use Rattle.till.specs.declared.Word.the-variants.{Idle, Answered, Unfinished, TooShort, NotSent}
+use Rattle.till.proofs.Answers.{none-idle}
 use Rattle.till.proofs.Seeing.{stateSeen, Sound, state-seen, sound-seen, failsBy}
 
 -- at every moment the frames handed out for the command that waits are its own, one to five
@@ -249,6 +250,12 @@ pub unfinished-over : (ls : List Lent) (l : Lent) (n : ℕ) → says (behind fre
 unfinished-over ls l n e =
     ap (λ (z : Seen). z .last) (watch-snoc ls nothingSeen freshState l)
     ∙ ap (λ w. onWord (watched ls) (l .happens) w (says (behind freshState ls) l .puts) .last) e
+
+-- so an answer that comes after the fifth failed try is heard by nobody
+pub too-late : (ls : List Lent) (l : Lent) (n : ℕ) → says (behind freshState ls) l .word ≡ Unfinished n → (size b : ℕ) → 210 ≤ size
+    → says (behind freshState (ls ++ l ∷ [])) (record { size = size; happens = byte b }) ≡ stays Idle (behind freshState (ls ++ l ∷ []))
+too-late ls l n e size b big =
+    none-idle (ls ++ l ∷ []) size (byte b) (unfinished-over ls l n e) big (λ code content q. let z : _≡_ {A = ℕ} 0 1 = cc in omega arith)
 
 pub answered-over : (ls : List Lent) (l : Lent) (n : ℕ) → says (behind freshState ls) l .word ≡ Answered n → watched (ls ++ l ∷ []) .last ≡ none
 answered-over ls l n e =

@@ -1,5 +1,5 @@
 -- What the theorems about any history say.
-use Prim.Native.Nat.{ℕ, _≤_}
+use Prim.Native.Nat.{ℕ, _≤_, _<_}
 use mathlib.Core.Path.{_≡_}
 use mathlib.Core.Bool.{true}
 use mathlib.Core.List.{List, [], _∷_, _++_}
@@ -8,6 +8,8 @@ use Rattle.wire.specs.Frame.{Message, frame, sendable}
 use Rattle.wire.specs.declared.Kind.the-variants.{Command, Answer}
 use Rattle.till.specs.Turns.{byte}
 use Rattle.till.specs.History.{Lent, one, Seen}
+use Rattle.till.specs.declared.Sent.{Sent}
+use Rattle.till.specs.declared.Sent.the-variants.{Free, Held}
 
 -- the frames handed out for a command: one to five, and all of them its own frame
 pub record Tried (m : Message) (frames : List (List ℕ)) : Type 0 where
@@ -42,3 +44,8 @@ pub record Came (seen : Seen) (l : Lent) : Type 0 where
   pub code : answer .code ≡ waiting .code
   pub before : List ℕ
   pub whole : since ++ last ∷ [] ≡ before ++ frame Answer answer
+
+-- a command's fields are bytes: their types say so
+abbrev pub Bytes : Sent → Type 0
+Bytes Free = Unit {0}
+Bytes (Held a) = (a .count < 256) × (a .reader .count < 256)

@@ -92,6 +92,7 @@ pub fn count(word: Word) -> usize
     }
 }
 
+// A command to be sent. The answer's array is not lent: nothing that it holds plays a part.
 pub fn command(till: Till, frame: &mut [u8; 256], code: u8, content: &[u8], buf: &mut [u8]) -> Said
     ensures { λ r. ⌜ ((answer : List ℕ) → r ≡ saidOf till (turnOf till (now (frame .entry)) answer (now (buf .entry)) (command code (now (content .entry))))) ⌝ }
     ensures { λ r. ⌜ ((answer : List ℕ) → now (frame .exit) ≡ framed (now (frame .entry)) (turnOf till (now (frame .entry)) answer (now (buf .entry)) (command code (now (content .entry))) .state .pending)) ⌝ }
@@ -173,6 +174,7 @@ fn hand_out(frame: &[u8], count: u8, buf: &mut [u8])
     text::put_bytes(buf, 0, &frame[0..n]);
 }
 
+// A byte from the line.
 pub fn byte(till: Till, frame: &[u8; 256], answer: &mut [u8; 256], b: u8, buf: &mut [u8]) -> Said
     ensures { λ r. ⌜ r ≡ saidOf till (turnOf till (now (frame .entry)) (now (answer .entry)) (now (buf .entry)) (byte b)) ⌝ }
     ensures { λ r. ⌜ now (answer .exit) ≡ readIn (now (answer .entry)) (turnOf till (now (frame .entry)) (now (answer .entry)) (now (buf .entry)) (byte b) .state .pending) ⌝ }
@@ -237,7 +239,7 @@ fn nak_outside(within: bool, b: u8) -> bool
     b == 0x15
 }
 
-// One byte more, of an answer or beside one. The count is a byte: its caller asks.
+// One byte more, of an answer or beside one. That the count is a byte is for its caller.
 fn goes_on(next: u8, a: Attempt, reader: Reader) -> Said
     ensures { λ r. ⌜ a .count < 256 ⌝ }
     ensures { λ r. ⌜ r ≡ record { till = record { next = next; sent = Held (record { seq = a .seq; code = a .code; tries = a .tries; count = a .count; reader = reader }) }; word = Waiting 0 } ⌝ }
@@ -310,6 +312,7 @@ fn failed_try(next: u8, a: Attempt, frame: &[u8], buf: &mut [u8]) -> Said
     }
 }
 
+// No byte in time. The answer's array plays no part here either: a failed try leaves it.
 pub fn timeout(till: Till, frame: &[u8; 256], buf: &mut [u8]) -> Said
     ensures { λ r. ⌜ ((answer : List ℕ) → r ≡ saidOf till (turnOf till (now (frame .entry)) answer (now (buf .entry)) timeout)) ⌝ }
     ensures { λ r. ⌜ ((answer : List ℕ) → now (buf .exit) ≡ sets (now (buf .entry)) 0 (turnOf till (now (frame .entry)) answer (now (buf .entry)) timeout .puts)) ⌝ }
