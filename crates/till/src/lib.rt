@@ -122,37 +122,45 @@ fn send(next: u8, frame: &mut [u8; 256], code: u8, content: &[u8], buf: &mut [u8
 {
     let built = wire::build::build_command(frame, next, code, content);
     match built {
-        Built::Short => not_sent(next),
-        Built::Unsendable => not_sent(next),
+        Built::Short => free(next, Word::NotSent),
+        Built::Unsendable => free(next, Word::NotSent),
         Built::Frame(n) => {
             let count = n as u8;
             hand_out(&*frame, count, buf);
-            Said {
-                till: Till {
-                    next: seq_after(next),
-                    sent: Sent::Held(Attempt {
-                        seq: next,
-                        code,
-                        tries: 1,
-                        count,
-                        reader: reader::fresh(),
-                    }),
-                },
-                word: Word::Waiting(n),
-            }
+            let first = Attempt {
+                seq: next,
+                code,
+                tries: 1,
+                count,
+                reader: reader::fresh(),
+            };
+            held(seq_after(next), first, Word::Waiting(n))
         }
     }
 }
 
-fn not_sent(next: u8) -> Said
-    ensures { λ r. ⌜ r ≡ record { till = record { next = next; sent = Free }; word = NotSent } ⌝ }
+// What is said where a command waits, and where none does.
+fn held(next: u8, a: Attempt, word: Word) -> Said
+    ensures { λ r. ⌜ r ≡ record { till = record { next = next; sent = Held a }; word = word } ⌝ }
+{
+    Said {
+        till: Till {
+            next,
+            sent: Sent::Held(a),
+        },
+        word,
+    }
+}
+
+fn free(next: u8, word: Word) -> Said
+    ensures { λ r. ⌜ r ≡ record { till = record { next = next; sent = Free }; word = word } ⌝ }
 {
     Said {
         till: Till {
             next,
             sent: Sent::Free,
         },
-        word: Word::NotSent,
+        word,
     }
 }
 
@@ -244,19 +252,14 @@ fn goes_on(next: u8, a: Attempt, reader: Reader) -> Said
     ensures { λ r. ⌜ a .count < 256 ⌝ }
     ensures { λ r. ⌜ r ≡ record { till = record { next = next; sent = Held (record { seq = a .seq; code = a .code; tries = a .tries; count = a .count; reader = reader }) }; word = Waiting 0 } ⌝ }
 {
-    Said {
-        till: Till {
-            next,
-            sent: Sent::Held(Attempt {
-                seq: a.seq,
-                code: a.code,
-                tries: a.tries,
-                count: a.count,
-                reader,
-            }),
-        },
-        word: Word::Waiting(0),
-    }
+    let more = Attempt {
+        seq: a.seq,
+        code: a.code,
+        tries: a.tries,
+        count: a.count,
+        reader,
+    };
+    held(next, more, Word::Waiting(0))
 }
 
 // The answer's n data bytes, and behind them its six status bytes.
@@ -270,13 +273,7 @@ fn answered(next: u8, answer: &[u8], n: usize, buf: &mut [u8]) -> Said
     let behind = n + 10;
     text::put_bytes(buf, 0, &answer[3..end]);
     text::put_bytes(buf, n, &answer[from..behind]);
-    Said {
-        till: Till {
-            next,
-            sent: Sent::Free,
-        },
-        word: Word::Answered(n + 6),
-    }
+    free(next, Word::Answered(n + 6))
 }
 
 // The same frame again, up to the fifth try.
@@ -289,27 +286,16 @@ fn failed_try(next: u8, a: Attempt, frame: &[u8], buf: &mut [u8]) -> Said
     let count = a.count;
     if tries < 5 {
         hand_out(frame, count, buf);
-        return Said {
-            till: Till {
-                next,
-                sent: Sent::Held(Attempt {
-                    seq: a.seq,
-                    code: a.code,
-                    tries: tries + 1,
-                    count,
-                    reader: reader::fresh(),
-                }),
-            },
-            word: Word::SendAgain(count as usize),
+        let again = Attempt {
+            seq: a.seq,
+            code: a.code,
+            tries: tries + 1,
+            count,
+            reader: reader::fresh(),
         };
+        return held(next, again, Word::SendAgain(count as usize));
     }
-    Said {
-        till: Till {
-            next,
-            sent: Sent::Free,
-        },
-        word: Word::Unfinished(tries as usize),
-    }
+    free(next, Word::Unfinished(tries as usize))
 }
 
 // No byte in time. The answer's array plays no part here either: a failed try leaves it.

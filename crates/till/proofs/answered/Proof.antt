@@ -1,4 +1,3 @@
-use mathlib.Core.Path.{refl}
 use denote.Ref.{now}
 use Rattle.till.proofs.Turning.{put-both}
 use borrow.Author.Needs.{needs}
@@ -41,14 +40,17 @@ put-bytes-requires-2 c κs = search needs
 add-t12 : tie.Need-add-t12
 add-t12 c = search needs
 
+free-requires : tie.Need-free-requires
+free-requires c κs = search needs
+
 same-length : tie.Need-same-length
 same-length c = search needs
 
 returns : tie.Need-returns
 returns c =
-    let s = c .before .before .before .before .before .before .before .before .before .before .before .before in
+    let s = c .before .before .before .before .before .before .before .before .before .before .before .before .before in
     let a = s .args in
-    (refl, put-both (now (a .buf)) _ _ (now (a .answer)) (a .n) (s .pre) (c .before .before .before .before .before .before .before .put-bytes .ensures) (c .before .before .put-bytes2 .ensures))
+    (c .free .ensures, put-both (now (a .buf)) _ _ (now (a .answer)) (a .n) (s .pre) (c .before .before .before .before .before .before .before .before .put-bytes .ensures) (c .before .before .before .put-bytes2 .ensures))
 
 pub answered-spec : {M : Type 1} → statement M
 answered-spec =
@@ -66,5 +68,6 @@ answered-spec =
     part-put-bytes-end-2
     put-bytes-requires-2
     add-t12
+    free-requires
     same-length
     returns)
