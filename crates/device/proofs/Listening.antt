@@ -27,7 +27,8 @@ use Rattle.line.specs.declared.Previous.the-variants.{Nothing}
 use Rattle.device.specs.Carrying.{carry}
 use Rattle.device.specs.Device.{After, stateOf, taken, previousAfter, lastAfter}
 use Rattle.device.specs.Recording.{recording, listed, listing, Told, toldIn}
-use Rattle.device.specs.Private.{answering, listedCall, isQuiet}
+use Rattle.device.specs.Answering.{answering}
+use Rattle.device.specs.Private.{listedCall, isQuiet}
 use Rattle.device.specs.declared.Given.{Given}
 use Rattle.device.proofs.Working.{front-back, front-stands, take-min}
 use Rattle.device.proofs.Turning.{Standing-in, heard-whole, same-repeat, turn-is, againTurn, orderTurn}

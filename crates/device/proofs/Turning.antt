@@ -23,7 +23,7 @@ use Rattle.line.specs.declared.Previous.{Previous}
 use Rattle.line.specs.declared.Previous.the-variants.{Nothing, Frame}
 use Rattle.device.specs.Carrying.{carry}
 use Rattle.device.specs.Device.{After, stateOf, taken, notTaken, afterByte}
-use Rattle.device.specs.Private.{answering, orders, gives}
+use Rattle.device.specs.Answering.{answering, orders, gives}
 
 -- a part of a part is a beginning
 take-take : (n c : ℕ) (xs : List ℕ) → take (length (take n (take c xs))) xs ≡ take n (take c xs)

@@ -24,7 +24,8 @@ use Rattle.line.specs.declared.Previous.{Previous}
 use Rattle.line.specs.declared.Previous.the-variants.{Nothing, Frame}
 use Rattle.device.specs.Carrying.{deedFor, answerTo, carriedAs, carry}
 use Rattle.device.specs.Device.{After}
-use Rattle.device.specs.Private.{workOf, sizeOf, orders, answering}
+use Rattle.device.specs.Answering.{orders, answering}
+use Rattle.device.specs.Private.{workOf, sizeOf}
 use Rattle.device.specs.declared.Given.{Given}
 use Rattle.device.specs.declared.Work.{Work}
 

@@ -26,25 +26,6 @@ pub record Lent (frame last buffer : List ℕ) : Type 0 where
   pub lasts : length last ≡ 217
   pub room : 217 ≤ length buffer
 
-abbrev pub gives : ℕ → Line → Books → List ℕ → List ℕ → List ℕ → List ℕ → After
-gives number l b bytes frame last buffer =
-    record { given = record { line = l; books = b; number = number; count = length bytes }; frame = frame; last = last; buffer = sets buffer 0 bytes }
-
-abbrev pub orders : Line → ℕ → ℕ → Carried Books → List ℕ → List ℕ → List ℕ → After
-orders l seq code k frame last buffer =
-    record {
-      given = record { line = record { reader = l .reader; previous = Frame seq code (length (k .answer)) }; books = k .books; number = k .number; count = length (k .answer) };
-      frame = frame;
-      last = sets last 0 (k .answer);
-      buffer = sets buffer 0 (k .answer);
-    }
-
-abbrev pub answering : Line → Books → Call → List ℕ → List ℕ → List ℕ → After
-answering l b Quiet frame last buffer = gives 0 l b [] frame last buffer
-answering l b Nak frame last buffer = gives 5 l b (0x15 ∷ []) frame last buffer
-answering l b Again frame last buffer = gives 6 l b (lastAnswer (beforeOf (l .previous) last)) frame last buffer
-answering l b (Order seq code n) frame last buffer = orders l seq code (carry b (commandOf seq code (take n (drop 3 frame)))) frame last buffer
-
 abbrev pub workOf : Carried Books → Work
 workOf k = record { number = k .number; books = k .books; count = length (k .answer) }
 

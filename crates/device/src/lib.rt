@@ -17,7 +17,8 @@ ghost use Rattle.line.specs.Calls.{beforeOf};
 ghost use Rattle.device.specs.Carrying.{deedFor, carry};
 ghost use Rattle.device.specs.Device.{After, afterByte};
 ghost use Rattle.device.specs.Recording.{recording, toldIn};
-ghost use Rattle.device.specs.Private.{Lent, answering, orders, workOf, sizeOf, listedCall, isQuiet};
+ghost use Rattle.device.specs.Answering.{answering, orders, responding};
+ghost use Rattle.device.specs.Private.{Lent, workOf, sizeOf, listedCall, isQuiet};
 
 // What a byte brought: the device afterwards, the reply number, and how many bytes of the lent buffer are given back.
 pub struct Given {
@@ -64,11 +65,28 @@ pub fn take_byte(
     let called = line::hear(line, frame, b);
     let next = called.line;
     let call = called.call;
-    respond(next, books, call, &*frame, last, buf)
+    answer_call(next, books, call, &*frame, last, buf)
 }
 
-// What a call asks for.
-fn respond(
+// What a call asks for: the second half of a byte, for a caller that keeps the books out of the way of every quiet byte.
+pub fn respond(
+    line: Line,
+    books: Books,
+    call: Call,
+    frame: &[u8; 256],
+    last: &mut [u8; 217],
+    buf: &mut [u8],
+) -> Given
+    ensures { λ r. ⌜ record { given = r; frame = now (frame .entry); last = now (last .exit); buffer = now (buf .exit) } ≡ responding line books call (now (frame .entry)) (now (last .entry)) (now (buf .entry)) ⌝ }
+    ensures { λ r. ⌜ r .count ≤ 217 ⌝ }
+{
+    if buf.len() < 217 {
+        return gave(line, books, 7, 0);
+    }
+    answer_call(line, books, call, frame, last, buf)
+}
+
+fn answer_call(
     line: Line,
     books: Books,
     call: Call,
@@ -235,7 +253,7 @@ pub fn hear_all(bytes: &[u8], out: &mut [u8], orders: &mut [u8]) -> Recorded
             continue;
         }
         listed = list_call(call, &frame, orders, listed);
-        let step = respond(next, books, call, &frame, &mut last, &mut buf);
+        let step = answer_call(next, books, call, &frame, &mut last, &mut buf);
         let after = step.line;
         let kept = step.books;
         let count = step.count;
@@ -250,7 +268,7 @@ pub fn hear_all(bytes: &[u8], out: &mut [u8], orders: &mut [u8]) -> Recorded
     }
 }
 
-fn is_quiet(call: Call) -> bool
+pub fn is_quiet(call: Call) -> bool
     ensures { λ r. ⌜ r ≡ isQuiet call ⌝ }
 {
     match call {

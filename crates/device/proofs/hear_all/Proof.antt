@@ -58,19 +58,19 @@ list-call-requires c κs =
     let at = c .before .before .before .before .before .before .before .before .before .loop in
     (still-256 (at .frame) _ (read Command (placeOf (at .line .reader) (at .frame)) (getD (now (c .before .before .before .before .before .before .before .before .before .before .before .before .before .before .before .args .bytes)) (at .i) 0) .place) (c .before .before .before .before .before .hear .ensures .1) (at .inv .frames), at .inv .listed-in)
 
-slice-aggregate-respond : tie.Need-slice-aggregate-respond Inv-loop μ-loop
-slice-aggregate-respond c =
+slice-aggregate-answer-call : tie.Need-slice-aggregate-answer-call Inv-loop μ-loop
+slice-aggregate-answer-call c =
     let at = c .before .before .before .before .before .before .before .before .before .before .before .before .before .loop in
     sym (still-256 (at .frame) _ (read Command (placeOf (at .line .reader) (at .frame)) (getD (now (c .before .before .before .before .before .before .before .before .before .before .before .before .before .before .before .before .before .before .before .args .bytes)) (at .i) 0) .place) (c .before .before .before .before .before .before .before .before .before .hear .ensures .1) (at .inv .frames))
 
-slice-aggregate-respond-2 : tie.Need-slice-aggregate-respond-2 Inv-loop μ-loop
-slice-aggregate-respond-2 c = search needs
+slice-aggregate-answer-call-2 : tie.Need-slice-aggregate-answer-call-2 Inv-loop μ-loop
+slice-aggregate-answer-call-2 c = search needs
 
-slice-aggregate-respond-3 : tie.Need-slice-aggregate-respond-3 Inv-loop μ-loop
-slice-aggregate-respond-3 c = search needs
+slice-aggregate-answer-call-3 : tie.Need-slice-aggregate-answer-call-3 Inv-loop μ-loop
+slice-aggregate-answer-call-3 c = search needs
 
-respond-requires : tie.Need-respond-requires Inv-loop μ-loop
-respond-requires c κs =
+answer-call-requires : tie.Need-answer-call-requires Inv-loop μ-loop
+answer-call-requires c κs =
     let at = c .before .before .before .before .before .before .before .before .before .before .before .before .before .before .before .loop in
     record { frames = still-256 (at .frame) _ (read Command (placeOf (at .line .reader) (at .frame)) (getD (now (c .before .before .before .before .before .before .before .before .before .before .before .before .before .before .before .before .before .before .before .before .before .args .bytes)) (at .i) 0) .place) (c .before .before .before .before .before .before .before .before .before .before .before .hear .ensures .1) (at .inv .frames); lasts = at .inv .lasts; room = omega (arith, at .inv .room) }
 
@@ -81,7 +81,7 @@ part-append-start : tie.Need-part-append-start Inv-loop μ-loop
 part-append-start c = search needs
 
 part-append-end : tie.Need-part-append-end Inv-loop μ-loop
-part-append-end c = omega (arith, c .before .before .before .before .before .before .respond .ensures .1, c .before .before .before .before .before .before .before .before .before .before .before .before .before .before .before .before .before .before .before .before .before .before .loop .inv .room)
+part-append-end c = omega (arith, c .before .before .before .before .before .before .answer-call .ensures .1, c .before .before .before .before .before .before .before .before .before .before .before .before .before .before .before .before .before .before .before .before .before .before .loop .inv .room)
 
 append-requires : tie.Need-append-requires Inv-loop μ-loop
 append-requires c κs = search needs
@@ -94,7 +94,7 @@ loop-again-2 c =
     let at = c .before .before .before .before .before .before .before .before .before .before .before .before .before .before .before .before .before .before .before .before .before .before .before .before .before .before .loop in
     head-given (now (c .before .before .before .before .before .before .before .before .before .before .before .before .before .before .before .before .before .before .before .before .before .before .before .before .before .before .before .before .before .before .before .before .args .bytes)) (now (c .before .before .before .before .before .before .before .before .before .before .before .before .before .before .before .before .before .before .before .before .before .before .before .before .before .before .before .before .before .before .before .before .args .out)) (now (c .before .before .before .before .before .before .before .before .before .before .before .before .before .before .before .before .before .before .before .before .before .before .before .before .before .before .before .before .before .before .before .before .args .orders)) (at .out) (at .orders) (at .frame) (at .last) (at .buf) (at .line) (at .books) (at .given) (at .listed) (at .i) (at .inv) (c .before .before .before .before .before .before .before .before .before .before .before .before .before .before .before .before .before .before .before .before .before .before .before .before .before .loop-test .taken)
     (c .before .before .before .before .before .before .before .before .before .before .before .before .before .before .before .before .before .before .before .before .before .before .hear .result) _ (c .before .before .before .before .before .before .before .before .before .before .before .before .before .before .before .before .before .before .before .before .before .before .hear .ensures .0) (c .before .before .before .before .before .before .before .before .before .before .before .before .before .before .before .before .before .before .before .before .before .before .hear .ensures .1) (omega (arith, c .before .before .before .before .before .before .before .before .before .before .before .before .before .before .before .before .before .before .before .before .before .before .hear .ok))
-    (c .before .before .before .before .before .before .before .before .before .before .respond .result) _ _ (c .before .before .before .before .before .before .before .before .before .before .respond .ensures .0) (c .before .before .before .before .before .before .before .before .before .before .respond .ensures .1) _ _ _ _ (c .before .before .append .ensures .1) (c .before .before .append .ensures .0) (c .before .before .before .before .before .before .before .before .before .before .before .before .before .before .before .before .list-call .ensures .1) (c .before .before .before .before .before .before .before .before .before .before .before .before .before .before .before .before .list-call .ensures .0)
+    (c .before .before .before .before .before .before .before .before .before .before .answer-call .result) _ _ (c .before .before .before .before .before .before .before .before .before .before .answer-call .ensures .0) (c .before .before .before .before .before .before .before .before .before .before .answer-call .ensures .1) _ _ _ _ (c .before .before .append .ensures .1) (c .before .before .append .ensures .0) (c .before .before .before .before .before .before .before .before .before .before .before .before .before .before .before .before .list-call .ensures .1) (c .before .before .before .before .before .before .before .before .before .before .before .before .before .before .before .before .list-call .ensures .0)
 
 same-length : tie.Need-same-length Inv-loop μ-loop
 same-length c = c .before .loop .inv .outs
@@ -124,10 +124,10 @@ hear-all-spec =
     loop-again
     slice-aggregate-list-call
     list-call-requires
-    slice-aggregate-respond
-    slice-aggregate-respond-2
-    slice-aggregate-respond-3
-    respond-requires
+    slice-aggregate-answer-call
+    slice-aggregate-answer-call-2
+    slice-aggregate-answer-call-3
+    answer-call-requires
     sub-append
     part-append-start
     part-append-end

@@ -13,8 +13,8 @@ returns c =
 hear-requires : tie.Need-hear-requires
 hear-requires c κs = search needs
 
-respond-requires : tie.Need-respond-requires
-respond-requires c κs = search needs
+answer-call-requires : tie.Need-answer-call-requires
+answer-call-requires c κs = search needs
 
 same-length : tie.Need-same-length
 same-length c = search needs
@@ -22,7 +22,7 @@ same-length c = search needs
 returns-2 : tie.Need-returns-2
 returns-2 c =
     let a = c .before .before .before .before .before .before .before .before .before .before .before .before .args in
-    (byte-taken (a .line) (a .books) (now (a .frame)) (now (a .last)) (now (a .buf)) (a .b) (c .before .before .before .before .before .before .before .before .hear .result) _ _ (c .before .before .before .before .before .before .before .before .before .before .if1 .left) (c .before .before .before .before .before .before .before .before .hear .ensures .0) (c .before .before .before .before .before .before .before .before .hear .ensures .1) (c .before .before .respond .ensures .0), c .before .before .respond .ensures .1)
+    (byte-taken (a .line) (a .books) (now (a .frame)) (now (a .last)) (now (a .buf)) (a .b) (c .before .before .before .before .before .before .before .before .hear .result) _ _ (c .before .before .before .before .before .before .before .before .before .before .if1 .left) (c .before .before .before .before .before .before .before .before .hear .ensures .0) (c .before .before .before .before .before .before .before .before .hear .ensures .1) (c .before .before .answer-call .ensures .0), c .before .before .answer-call .ensures .1)
 
 pub take-byte-spec : {M : Type 1} → statement M
-take-byte-spec = tie.close (tie.spec returns hear-requires respond-requires same-length returns-2)
+take-byte-spec = tie.close (tie.spec returns hear-requires answer-call-requires same-length returns-2)

@@ -3,8 +3,8 @@ use native.Mathlib.Omega.{arith}
 use denote.Ref.{now}
 use Rattle.device.proofs.Working.{call-quiet, call-nak, call-again, call-order, again-few}
 use borrow.Author.Needs.{needs}
-use Rattle.device.proofs.respond.Statement.{statement}
-use Rattle.device.proofs.respond.Tie as tie
+use Rattle.device.proofs.answer_call.Statement.{statement}
+use Rattle.device.proofs.answer_call.Tie as tie
 
 enum-told : tie.Need-enum-told
 enum-told c = search needs
@@ -71,8 +71,8 @@ returns-4 c =
     let a = c .before .before .before .before .before .before .before .before .before .before .before .before .before .args in
     (call-order (a .line) (a .books) (a .call) (now (a .frame)) (now (a .last)) (now (a .buf)) _ _ _ _ (c .before .before .before .before .order .ensures .0) (c .before .before .before .before .before .before .before .before .call .given .1), c .before .before .before .before .order .ensures .1)
 
-pub respond-spec : {M : Type 1} → statement M
-respond-spec =
+pub answer-call-spec : {M : Type 1} → statement M
+answer-call-spec =
     tie.close
     (tie.spec
     enum-told

@@ -1,0 +1,42 @@
+-- Document 01's own bytes, and the fault that this project is to rule out.
+use mathlib.Core.Path.{_≡_, refl}
+use mathlib.Core.List.{List, [], _∷_}
+use Rattle.till.specs.Turns.{freshState, seqAfter, command, byte, timeout}
+use Rattle.till.specs.History.{Lent, history, words, given, line, seqOf}
+use Rattle.till.specs.declared.Word.the-variants.{Idle, Waiting, SendAgain, Answered, Unfinished, NotSent}
+use Prim.Native.Nat.{ℕ}
+
+abbrev status74 : Lent
+status74 = record { size = 210; happens = command 74 [] }
+
+abbrev late : Lent
+late = record { size = 210; happens = timeout }
+
+abbrev nak : Lent
+nak = record { size = 210; happens = byte 0x15 }
+
+abbrev frame74 : List ℕ
+frame74 = 0x01 ∷ 0x24 ∷ 0x20 ∷ 0x4A ∷ 0x05 ∷ 0x30 ∷ 0x30 ∷ 0x39 ∷ 0x33 ∷ 0x03 ∷ []
+
+abbrev answer74 : List ℕ
+answer74 =
+    0x01 ∷ 0x31 ∷ 0x20 ∷ 0x4A ∷ 0x80 ∷ 0x80 ∷ 0x80 ∷ 0x80 ∷ 0x86 ∷ 0x9A ∷ 0x04 ∷ 0x80 ∷ 0x80 ∷ 0x80 ∷ 0x80 ∷ 0x86 ∷ 0x9A ∷ 0x05 ∷ 0x30 ∷ 0x36 ∷ 0x3E ∷ 0x34
+    ∷ 0x03 ∷ []
+
+-- the same frame five times, then Unfinished, and the answer that comes too late is heard by nobody
+gives-up : words (history freshState (status74 ∷ late ∷ nak ∷ late ∷ status74 ∷ nak ∷ late ∷ line (0x01 ∷ 0x31 ∷ [])))
+    ≡ Waiting 10 ∷ SendAgain 10 ∷ SendAgain 10 ∷ SendAgain 10 ∷ NotSent ∷ SendAgain 10 ∷ Unfinished 5 ∷ Idle ∷ Idle ∷ []
+gives-up = refl
+
+same-frame : given (history freshState (status74 ∷ late ∷ nak ∷ [])) ≡ frame74 ∷ frame74 ∷ frame74 ∷ []
+same-frame = refl
+
+-- its whole answer, behind a NAK and with a stray byte before it
+answered : words (history freshState (status74 ∷ nak ∷ line (0x16 ∷ answer74)))
+    ≡ Waiting 10 ∷ SendAgain 10 ∷ Waiting 0 ∷ Waiting 0 ∷ Waiting 0 ∷ Waiting 0 ∷ Waiting 0 ∷ Waiting 0 ∷ Waiting 0 ∷ Waiting 0 ∷ Waiting 0 ∷ Waiting 0 ∷ Waiting 0
+    ∷ Waiting 0 ∷ Waiting 0 ∷ Waiting 0 ∷ Waiting 0 ∷ Waiting 0 ∷ Waiting 0 ∷ Waiting 0 ∷ Waiting 0 ∷ Waiting 0 ∷ Waiting 0 ∷ Waiting 0 ∷ Waiting 0 ∷ Answered 12 ∷ []
+answered = refl
+
+-- "after FFh comes 20h"
+goes-round : (seqAfter 0xFF ≡ 0x20) × ((seqOf 223 ≡ 0xFF) × (seqOf 224 ≡ 0x20))
+goes-round = (refl, (refl, refl))

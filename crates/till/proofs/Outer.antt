@@ -1,0 +1,194 @@
+-- Laws of the public functions: refusals, Idle, and what their private ones say.
+use mathlib.Core.Path.{_≡_, refl, sym, ap, _∙_}
+use mathlib.Core.Bool.{Bool, true, false, cond}
+use mathlib.Core.List.{List}
+use Prim.Native.Nat.{ℕ, _+_, _≤_, _<_}
+use native.Mathlib.Omega.{arith}
+use lib.Dec.{ltb}
+use lib.ListN.{length, take}
+use lib.Seq.{sets, sets-eq, take-at}
+use borrow.Author.Tests.{lt-ltb, le-ltb}
+use Rattle.text.proofs.Laws.{sets-same}
+use Rattle.wire.specs.Frame.{Message, commandOf, frame, sendable}
+use Rattle.wire.specs.Replies.{Reply, replyOf, building}
+use Rattle.wire.specs.declared.Built.{Built}
+use Rattle.wire.specs.declared.Built.the-variants.{Frame, Short, Unsendable}
+use Rattle.wire.specs.declared.Kind.the-variants.{Command}
+use Rattle.wire.proofs.Building.{can, cannot}
+use Rattle.reader.specs.Reading.{outside, inside}
+use Rattle.reader.proofs.RoundTrip.{frame-size}
+use Rattle.reader.specs.Fields.{placeOf, readerOf, keptIn}
+use Rattle.reader.specs.declared.Reader.{Reader}
+use Rattle.till.specs.Words.{numberOf}
+use Rattle.till.specs.Turns.{idle, waits, Turn, Happening, command, byte, timeout, Meaning, failed, goesOn, answers, stays, gives, onMeaning, onByte, onTimeout, onCommand, sent, seqAfter, takes}
+use Rattle.till.specs.Fields.{pendingOf, stateOf, sentOf, tillOf, framed, readIn, refused, saidOf, turnOf}
+use Rattle.till.specs.Private.{toldOf, failedBy, heardBy, sentBy}
+use Rattle.till.specs.declared.Attempt.{Attempt}
+use Rattle.till.specs.declared.Said.{Said}
+use Rattle.till.specs.declared.Sent.{Sent}
+use Rattle.till.specs.declared.Sent.the-variants.{Free, Held}
+use Rattle.till.specs.declared.Till.{Till}
+use Rattle.till.specs.declared.Word.{Word}
+use Rattle.till.specs.declared.Word.the-variants.{Idle, Waiting, SendAgain, Unfinished, TooShort, NotSent}
+
+-- what the arrays hold already is what they hold
+kept-same : (r : Reader) (answer : List ℕ) → answer ≡ keptIn answer (placeOf r answer)
+kept-same r answer = go (r .inside)
+  where
+    go : (within : Bool) → answer ≡ keptIn answer (cond within (inside (r .sum) (take (r .count) answer)) outside)
+    go true = sym (sets-same 0 (r .count) answer)
+    go false = refl
+
+pub read-same : (s : Sent) (frame answer : List ℕ) → answer ≡ readIn answer (pendingOf s frame answer)
+read-same Free frame answer = refl
+read-same (Held a) frame answer = kept-same (a .reader) answer
+
+pub framed-same : (s : Sent) (frame answer : List ℕ) → frame ≡ framed frame (pendingOf s frame answer)
+framed-same Free frame answer = refl
+framed-same (Held a) frame answer = sym (sets-same 0 (a .count) frame)
+
+-- the turn: 7 first, then by what waits
+module _ (t : Till) (frame answer buf : List ℕ) where
+  pub too-short : (h : Happening) → length buf < 210 → turnOf t frame answer buf h ≡ stays TooShort (stateOf t frame answer)
+  too-short h e = ap (λ c. cond c (stays TooShort (stateOf t frame answer)) (takes (stateOf t frame answer) h)) (lt-ltb (length buf) 210 e)
+
+  module _ (room : 210 ≤ length buf) where
+    taken : (h : Happening) → turnOf t frame answer buf h ≡ takes (stateOf t frame answer) h
+    taken h = ap (λ c. cond c (stays TooShort (stateOf t frame answer)) (takes (stateOf t frame answer) h)) (le-ltb (length buf) 210 room)
+
+    pub byte-idle : (b : ℕ) → t .sent ≡ Free → turnOf t frame answer buf (byte b) ≡ stays Idle (stateOf t frame answer)
+    byte-idle b e = taken (byte b) ∙ ap (λ z. onByte (stateOf t frame answer) (pendingOf z frame answer) b) e
+
+    pub byte-held : (b : ℕ) (a : Attempt) → t .sent ≡ Held a → turnOf t frame answer buf (byte b) ≡ heardBy (t .next) a frame answer b
+    byte-held b a e = taken (byte b) ∙ ap (λ z. onByte (stateOf t frame answer) (pendingOf z frame answer) b) e
+
+    pub timeout-idle : t .sent ≡ Free → turnOf t frame answer buf timeout ≡ stays Idle (stateOf t frame answer)
+    timeout-idle e = taken timeout ∙ ap (λ z. onTimeout (stateOf t frame answer) (pendingOf z frame answer)) e
+
+    pub timeout-held : (a : Attempt) → t .sent ≡ Held a → turnOf t frame answer buf timeout ≡ failedBy (t .next) a frame
+    timeout-held a e = taken timeout ∙ ap (λ z. onTimeout (stateOf t frame answer) (pendingOf z frame answer)) e
+
+    pub command-held : (code : ℕ) (content : List ℕ) (a : Attempt) → t .sent ≡ Held a → turnOf t frame answer buf (command code content) ≡ stays NotSent (stateOf t frame answer)
+    command-held code content a e = taken (command code content) ∙ ap (λ z. onCommand (stateOf t frame answer) (pendingOf z frame answer) code content) e
+
+    pub command-free : (code : ℕ) (content : List ℕ) → t .sent ≡ Free → turnOf t frame answer buf (command code content) ≡ sentBy (t .next) code content
+    command-free code content e =
+        taken (command code content)
+        ∙ ap (λ z. onCommand (record { next = t .next; pending = pendingOf z frame answer }) (pendingOf z frame answer) code content) e
+
+-- "everything stays": 7 and 8
+pub all-stays : (t : Till) (frame answer : List ℕ) (word : Word) → refused (numberOf word) ≡ true
+    → record { till = t; word = word } ≡ saidOf t (stays word (stateOf t frame answer))
+all-stays t frame answer word e = ap (λ c. record { till = cond c t (tillOf (stateOf t frame answer)); word = word }) (sym e)
+
+-- Idle "changes nothing"
+pub idle-stays : (t : Till) (frame answer : List ℕ) → t .sent ≡ Free → record { till = t; word = Idle } ≡ saidOf t (stays Idle (stateOf t frame answer))
+idle-stays t frame answer e =
+    let same : t .sent ≡ sentOf (pendingOf (t .sent) frame answer) = e ∙ ap (λ z. sentOf (pendingOf z frame answer)) (sym e) in
+    λ i. record { till = record { next = t .next; sent = same i }; word = Idle }
+
+-- a command that waits is never refused
+pub not-refused : (next seq code : ℕ) (bytes : List ℕ) (tries : ℕ) (m : Meaning) → refused (numberOf (onMeaning next seq code bytes tries m .word)) ≡ false
+not-refused next seq code bytes tries failed = go (ltb tries 5)
+  where
+    go : (s : Bool) → refused (numberOf (cond s (gives SendAgain bytes (record { next = next; pending = waits seq code bytes (tries + 1) outside }))
+        (stays (Unfinished tries) (record { next = next; pending = idle })) .word)) ≡ false
+    go true = refl
+    go false = refl
+not-refused next seq code bytes tries (goesOn place) = refl
+not-refused next seq code bytes tries (answers m) = refl
+
+pub said-on : (t : Till) (next seq code : ℕ) (bytes : List ℕ) (tries : ℕ) (m : Meaning)
+    → toldOf (onMeaning next seq code bytes tries m) ≡ saidOf t (onMeaning next seq code bytes tries m)
+said-on t next seq code bytes tries m =
+    let x : Turn = onMeaning next seq code bytes tries m in
+    ap (λ c. record { till = cond c t (tillOf (x .state)); word = x .word }) (sym (not-refused next seq code bytes tries m))
+
+-- and one that is sent, or is not
+abbrev bySendable : ℕ → Message → Bool → Turn
+bySendable next m s = cond s (sent next m) (stays NotSent (record { next = next; pending = idle }))
+
+pub said-sent : (t : Till) (code : ℕ) (content : List ℕ) → t .sent ≡ Free → toldOf (sentBy (t .next) code content) ≡ saidOf t (sentBy (t .next) code content)
+said-sent t code content e = go (sendable Command (commandOf (t .next) code content))
+  where
+    go : (s : Bool) → toldOf (bySendable (t .next) (commandOf (t .next) code content) s) ≡ saidOf t (bySendable (t .next) (commandOf (t .next) code content) s)
+    go true = refl
+    go false = λ i. record { till = record { next = t .next; sent = sym e i }; word = NotSent }
+
+-- what a public function says, from its turn
+module _ (t : Till) (buf buf' : List ℕ) (r : Said) (x y : Turn) (e : x ≡ y) where
+  pub says : r ≡ saidOf t y → r ≡ saidOf t x
+  says p = p ∙ ap (saidOf t) (sym e)
+
+  pub puts : buf' ≡ sets buf 0 (y .puts) → buf' ≡ sets buf 0 (x .puts)
+  puts q = q ∙ ap (λ (z : Turn). sets buf 0 (z .puts)) (sym e)
+
+  pub reads-in : (array array' : List ℕ) → array' ≡ readIn array (y .state .pending) → array' ≡ readIn array (x .state .pending)
+  reads-in array array' q = q ∙ ap (λ (z : Turn). readIn array (z .state .pending)) (sym e)
+
+  pub frames-in : (array array' : List ℕ) → array' ≡ framed array (y .state .pending) → array' ≡ framed array (x .state .pending)
+  frames-in array array' q = q ∙ ap (λ (z : Turn). framed array (z .state .pending)) (sym e)
+
+-- a command built in its array
+module _ (next code : ℕ) (content array : List ℕ) (size : length array ≡ 256) where
+  abbrev m : Message
+  m = commandOf next code content
+
+  built-as : (s : Bool) → sendable Command m ≡ s
+      → building Command array m
+      ≡ cond s (record { number = 0; count = length (frame Command m); buffer = sets array 0 (frame Command m) }) (record { number = 8; count = 0; buffer = array })
+  built-as true e = can Command array m (omega arith) e
+  built-as false e = cannot Command array m (omega arith) e
+
+  pub built-frame : (r : Built) (after : List ℕ) (n : ℕ) → r ≡ Frame n → replyOf r after ≡ building Command array m
+      → (sendable Command m ≡ true) × ((n ≡ length (frame Command m)) × (after ≡ sets array 0 (frame Command m)))
+  built-frame r after n is e = go (sendable Command m) refl
+    where
+      go : (s : Bool) → sendable Command m ≡ s → (sendable Command m ≡ true) × ((n ≡ length (frame Command m)) × (after ≡ sets array 0 (frame Command m)))
+      go true es =
+          let all = ap (λ z. replyOf z after) (sym is) ∙ e ∙ built-as true es in
+          (es, (ap (λ (z : Reply). z .count) all, ap (λ (z : Reply). z .buffer) all))
+      go false es =
+          let all = ap (λ z. replyOf z after) (sym is) ∙ e ∙ built-as false es in
+          absurd (omega (arith, ap (λ (z : Reply). z .number) all))
+
+  -- the array is long enough
+  pub built-short : (r : Built) (after : List ℕ) → r ≡ Short → replyOf r after ≡ building Command array m → ⊥
+  built-short r after is e = go (sendable Command m) refl
+    where
+      go : (s : Bool) → sendable Command m ≡ s → ⊥
+      go true es = omega (arith, ap (λ (z : Reply). z .number) (ap (λ z. replyOf z after) (sym is) ∙ e ∙ built-as true es))
+      go false es = omega (arith, ap (λ (z : Reply). z .number) (ap (λ z. replyOf z after) (sym is) ∙ e ∙ built-as false es))
+
+  pub built-not : (r : Built) (after : List ℕ) → r ≡ Unsendable → replyOf r after ≡ building Command array m
+      → (sendable Command m ≡ false) × (after ≡ array)
+  built-not r after is e = go (sendable Command m) refl
+    where
+      go : (s : Bool) → sendable Command m ≡ s → (sendable Command m ≡ false) × (after ≡ array)
+      go true es = absurd (omega (arith, ap (λ (z : Reply). z .number) (ap (λ z. replyOf z after) (sym is) ∙ e ∙ built-as true es)))
+      go false es = (es, ap (λ (z : Reply). z .buffer) (ap (λ z. replyOf z after) (sym is) ∙ e ∙ built-as false es))
+
+  -- not sent
+  pub says-not : sendable Command m ≡ false → (after buf : List ℕ) → after ≡ array
+      → (record { till = record { next = next; sent = Free }; word = NotSent } ≡ toldOf (sentBy next code content))
+      × ((after ≡ framed array (sentBy next code content .state .pending)) × (buf ≡ sets buf 0 (sentBy next code content .puts)))
+  says-not e after buf same =
+      let turn : sentBy next code content ≡ stays NotSent (record { next = next; pending = idle }) = ap (bySendable next m) e in
+      (ap toldOf (sym turn), (same ∙ ap (λ (z : Turn). framed array (z .state .pending)) (sym turn), ap (λ (z : Turn). sets buf 0 (z .puts)) (sym turn)))
+
+  -- sent: the frame that is handed out is the one that is held
+  pub says-sent : sendable Command m ≡ true → (n : ℕ) → n ≡ length (frame Command m) → (after buf buf' : List ℕ) → after ≡ sets array 0 (frame Command m)
+      → buf' ≡ sets buf 0 (take n after) → (up : ℕ) → up ≡ seqAfter next → (start : Reader) → start ≡ readerOf outside
+      → (record { till = record { next = up; sent = Held (record { seq = next; code = code; tries = 1; count = n; reader = start }) }; word = Waiting n } ≡ toldOf (sentBy next code content))
+      × ((after ≡ framed array (sentBy next code content .state .pending)) × (buf' ≡ sets buf 0 (sentBy next code content .puts)))
+  says-sent e n count after buf buf' ea eb up eu start es =
+      let turn : sentBy next code content ≡ sent next m = ap (bySendable next m) e in
+      let fits = frame-size Command m e .1 in
+      let held : take n after ≡ frame Command m =
+      ap (take n) (ea ∙ sets-eq (frame Command m) array 0 (omega arith)) ∙ take-at (frame Command m) _ n (sym count) in (
+        (λ i. record {
+          till = record { next = eu i; sent = Held (record { seq = next; code = code; tries = 1; count = count i; reader = es i }) };
+          word = Waiting (count i);
+        }) ∙ ap toldOf (sym turn),
+        (ea ∙ ap (λ (z : Turn). framed array (z .state .pending)) (sym turn), eb ∙ ap (sets buf 0) held ∙ ap (λ (z : Turn). sets buf 0 (z .puts)) (sym turn)),
+      )

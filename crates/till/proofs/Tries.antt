@@ -1,0 +1,267 @@
+-- Tries are frames handed out; a command ends once, and five failed tries end it.
+use mathlib.Core.Path.{_≡_, refl, sym, ap, _∙_, subst}
+use mathlib.Core.Bool.{Bool, true, false, cond, _&&_, false≢true}
+use mathlib.Core.List.{List, [], _∷_, _++_}
+use mathlib.Core.Logic.{_⊎_, ⊎-elim, inl, inr}
+use Prim.Native.Nat.{ℕ, _+_, _≤_, _<_}
+use native.Mathlib.Nat.{add-zero}
+use native.Mathlib.Omega.{arith}
+use lib.Dec.{ltb, leb}
+use lib.ListN.{length, replicate}
+use borrow.Author.Tests.{ltb-true, ltb-false, lt-ltb, le-ltb, le-leb}
+use Rattle.wire.specs.Bytes.{mayStand, every}
+use Rattle.wire.specs.Frame.{Message, commandOf, frame, sendable}
+use Rattle.wire.specs.Replies.{room}
+use Rattle.wire.specs.declared.Kind.the-variants.{Command, Answer}
+use Rattle.wire.specs.declared.Sort.the-variants.{Mark as SeqOrCmd, Data}
+use Rattle.wire.proofs.Building.{sendable-command}
+use Rattle.reader.specs.Reading.{Place, outside, run}
+use Rattle.till.specs.Turns.{Pending, idle, waits, State, freshState, Happening, command, byte, timeout, Turn, stays, gives, sent, Meaning, failed, goesOn, answers, byteMeans, failsTry, onMeaning, onCommand, takes, hears}
+use Rattle.till.specs.History.{Lent, says, behind, seqOf, Open, none, one, Seen, nothingSeen, onWord, noted, watch, watched, Mark, ended, marksOf, marks, alternate, ends, failure, failureOf, failures}
+use Rattle.till.specs.Promises.{Tried, GivenUp}
+use Rattle.till.specs.declared.Word.the-variants.{Idle, Answered, Unfinished, TooShort, NotSent}
+use Rattle.till.proofs.Answers.{none-idle}
+use Rattle.till.proofs.Seeing.{stateSeen, Sound, state-seen, sound-seen, failsBy}
+
+-- at every moment the frames handed out for the command that waits are its own, one to five
+pub frames-same : (ls : List Lent) (m : Message) (frames : List (List ℕ)) (since : List ℕ) → watched ls .last ≡ one m frames since → Tried m frames
+frames-same ls m frames since e = subst Sound e (sound-seen ls)
+
+given-failed : (k : ℕ) (m : Message) (frames : List (List ℕ)) (since : List ℕ) (n : ℕ) → Tried m frames
+    → failsTry (seqOf k) (m .seq) (m .code) (frame Command m) (length frames) .word ≡ Unfinished n → GivenUp (record { commands = k; last = one m frames since }) n
+given-failed k m frames since n tried = go (ltb (length frames) 5) refl
+  where
+    go : (s : Bool) → ltb (length frames) 5 ≡ s → failsBy (seqOf k) (m .seq) (m .code) (frame Command m) (length frames) s .word ≡ Unfinished n
+        → GivenUp (record { commands = k; last = one m frames since }) n
+    go true e w = let z : _≡_ {A = ℕ} 0 1 = cc in absurd (omega arith)
+    go false e w =
+        let same : length frames ≡ n = cc in
+        let five : length frames ≡ 5 = omega (arith, tried .few, ltb-false (length frames) 5 e) in
+        record {
+          waiting = m;
+          frames = frames;
+          since = since;
+          waits = refl;
+          count = sym same;
+          five = sym same ∙ five;
+          same = tried .same ∙ ap (λ j. replicate j (frame Command m)) five;
+        }
+
+given-byte : (k : ℕ) (m : Message) (frames : List (List ℕ)) (since : List ℕ) (n : ℕ) → Tried m frames → (x : Meaning)
+    → onMeaning (seqOf k) (m .seq) (m .code) (frame Command m) (length frames) x .word ≡ Unfinished n → GivenUp (record { commands = k; last = one m frames since }) n
+given-byte k m frames since n tried failed w = given-failed k m frames since n tried w
+given-byte k m frames since n tried (goesOn place) w = let z : _≡_ {A = ℕ} 0 1 = cc in absurd (omega arith)
+given-byte k m frames since n tried (answers a) w = let z : _≡_ {A = ℕ} 0 1 = cc in absurd (omega arith)
+
+no-sent : (k code : ℕ) (content : List ℕ) (n : ℕ) → onCommand (record { next = seqOf k; pending = idle }) idle code content .word ≡ Unfinished n → ⊥
+no-sent k code content n = go (sendable Command (commandOf (seqOf k) code content))
+  where
+    go : (s : Bool) → cond s (sent (seqOf k) (commandOf (seqOf k) code content)) (stays NotSent (record { next = seqOf k; pending = idle })) .word ≡ Unfinished n → ⊥
+    go true e = let z : _≡_ {A = ℕ} 0 1 = cc in omega arith
+    go false e = let z : _≡_ {A = ℕ} 0 1 = cc in omega arith
+
+given-seen : (seen : Seen) (l : Lent) (n : ℕ) → Sound (seen .last) → says (stateSeen seen) l .word ≡ Unfinished n → GivenUp seen n
+given-seen seen l n sound = go (ltb (l .size) (room Command))
+  where
+    taken : (o : Open) → Sound o → (h : Happening) → takes (stateSeen (record { commands = seen .commands; last = o })) h .word ≡ Unfinished n
+        → GivenUp (record { commands = seen .commands; last = o }) n
+    taken none s (command code content) w = absurd (no-sent (seen .commands) code content n w)
+    taken none s (byte b) w = let z : _≡_ {A = ℕ} 0 1 = cc in absurd (omega arith)
+    taken none s timeout w = let z : _≡_ {A = ℕ} 0 1 = cc in absurd (omega arith)
+    taken (one m frames since) s (command code content) w = let z : _≡_ {A = ℕ} 0 1 = cc in absurd (omega arith)
+    taken (one m frames since) s (byte b) w = given-byte (seen .commands) m frames since n s (byteMeans (m .seq) (m .code) (run Answer outside since .place) b) w
+    taken (one m frames since) s timeout w = given-failed (seen .commands) m frames since n s w
+
+    go : (s : Bool) → cond s (stays TooShort (stateSeen seen)) (takes (stateSeen seen) (l .happens)) .word ≡ Unfinished n → GivenUp seen n
+    go true w = let z : _≡_ {A = ℕ} 0 1 = cc in absurd (omega arith)
+    go false w = taken (seen .last) sound (l .happens) w
+
+-- the theorem: Unfinished gives back how many times the command's frame was handed out, and that is five
+pub unfinished-is-five : (ls : List Lent) (l : Lent) (n : ℕ) → says (behind freshState ls) l .word ≡ Unfinished n → GivenUp (watched ls) n
+unfinished-is-five ls l n =
+    subst (λ (s : State). says s l .word ≡ Unfinished n → GivenUp (watched ls) n) (sym (state-seen ls)) (given-seen (watched ls) l n (sound-seen ls))
+
+-- one event and the marks: a command is taken only where none waits, and ended only where one does
+abbrev waitingIn : Pending → Bool
+waitingIn idle = false
+waitingIn (waits seq code bytes tries place) = true
+
+abbrev Fits : Pending → Happening → Turn → Type 0
+Fits p h t = (ms : List Mark) → alternate (waitingIn p) (marksOf h (t .word) ++ ms) ≡ alternate (waitingIn (t .state .pending)) ms
+
+fits-failed : (next seq code : ℕ) (bytes : List ℕ) (tries : ℕ) (place : Place) (h : Happening)
+    → Fits (waits seq code bytes tries place) h (failsTry next seq code bytes tries)
+fits-failed next seq code bytes tries place h = go (ltb tries 5)
+  where
+    go : (s : Bool) → Fits (waits seq code bytes tries place) h (failsBy next seq code bytes tries s)
+    go true ms = refl
+    go false ms = refl
+
+fits-byte : (next seq code : ℕ) (bytes : List ℕ) (tries : ℕ) (place : Place) (b : ℕ) (x : Meaning)
+    → Fits (waits seq code bytes tries place) (byte b) (onMeaning next seq code bytes tries x)
+fits-byte next seq code bytes tries place b failed ms = fits-failed next seq code bytes tries place (byte b) ms
+fits-byte next seq code bytes tries place b (goesOn q) ms = refl
+fits-byte next seq code bytes tries place b (answers a) ms = refl
+
+fits-sent : (next code : ℕ) (content : List ℕ) → Fits idle (command code content) (onCommand (record { next = next; pending = idle }) idle code content)
+fits-sent next code content = go (sendable Command (commandOf next code content))
+  where
+    go : (s : Bool) → Fits idle (command code content) (cond s (sent next (commandOf next code content)) (stays NotSent (record { next = next; pending = idle })))
+    go true ms = refl
+    go false ms = refl
+
+fits-takes : (next : ℕ) (p : Pending) (h : Happening) → Fits p h (takes (record { next = next; pending = p }) h)
+fits-takes next idle (command code content) ms = fits-sent next code content ms
+fits-takes next idle (byte b) ms = refl
+fits-takes next idle timeout ms = refl
+fits-takes next (waits seq code bytes tries place) (command other content) ms = refl
+fits-takes next (waits seq code bytes tries place) (byte b) ms = fits-byte next seq code bytes tries place b (byteMeans seq code place b) ms
+fits-takes next (waits seq code bytes tries place) timeout ms = fits-failed next seq code bytes tries place timeout ms
+
+fits-turn : (s : State) (l : Lent) → Fits (s .pending) (l .happens) (says s l)
+fits-turn s l = go (ltb (l .size) (room Command))
+  where
+    go : (short : Bool) → Fits (s .pending) (l .happens) (cond short (stays TooShort s) (takes s (l .happens)))
+    go true ms = refl
+    go false ms = fits-takes (s .next) (s .pending) (l .happens) ms
+
+alternate-from : (ls : List Lent) (s : State) → alternate (waitingIn (s .pending)) (marks s ls) ≡ true
+alternate-from [] s = refl
+alternate-from (l ∷ ls) s = fits-turn s l (marks (says s l .state) ls) ∙ alternate-from ls (says s l .state)
+
+-- the theorem: every command taken ends once, by Answered or Unfinished, before the next is taken; the last may still wait
+pub each-ends-once : (ls : List Lent) → alternate false (marks freshState ls) ≡ true
+each-ends-once ls = alternate-from ls freshState
+
+-- between, no other command is taken: 8, and everything stays
+pub none-between : (s : State) (seq sentCode : ℕ) (bytes : List ℕ) (tries : ℕ) (place : Place) → s .pending ≡ waits seq sentCode bytes tries place
+    → (size code : ℕ) (content : List ℕ) → 210 ≤ size → hears size s (command code content) ≡ stays NotSent s
+none-between s seq sentCode bytes tries place e size code content big =
+    ap (λ short. cond short (stays TooShort s) (takes s (command code content))) (le-ltb size 210 big) ∙ ap (λ p. onCommand s p code content) e
+
+-- one event to a command that waits: it ends, or it waits on with one try more for each failed one
+record Waits-on (next seq code : ℕ) (bytes : List ℕ) (tries failed-now : ℕ) (h : Happening) (t : Turn) : Type 0 where
+  place : Place
+  state : t .state ≡ record { next = next; pending = waits seq code bytes (tries + failed-now) place }
+  few : tries + failed-now ≤ 5
+  quiet : marksOf h (t .word) ≡ []
+
+abbrev Ends-or : (next seq code : ℕ) → List ℕ → ℕ → ℕ → Happening → Turn → Type 0
+Ends-or next seq code bytes tries f h t = (marksOf h (t .word) ≡ ended ∷ []) ⊎ Waits-on next seq code bytes tries f h t
+
+module _ (next seq code : ℕ) (bytes : List ℕ) (tries : ℕ) (few : tries ≤ 5) where
+  abbrev same-tries : Place → State
+  same-tries place = record { next = next; pending = waits seq code bytes tries place }
+
+  none-failed : (place : Place) → same-tries place ≡ record { next = next; pending = waits seq code bytes (tries + 0) place }
+  none-failed place = ap (λ j. record { next = next; pending = waits seq code bytes j place }) (sym (add-zero tries))
+
+  ends-failed : (h : Happening) → Ends-or next seq code bytes tries 1 h (failsTry next seq code bytes tries)
+  ends-failed h = go (ltb tries 5) refl
+    where
+      go : (s : Bool) → ltb tries 5 ≡ s → Ends-or next seq code bytes tries 1 h (failsBy next seq code bytes tries s)
+      go true e = inr (record { place = outside; state = refl; few = omega (arith, ltb-true tries 5 e); quiet = refl })
+      go false e = inl refl
+
+  ends-byte : (b : ℕ) (x : Meaning) → Ends-or next seq code bytes tries (failure x) (byte b) (onMeaning next seq code bytes tries x)
+  ends-byte b failed = ends-failed (byte b)
+  ends-byte b (goesOn place) = inr (record { place = place; state = none-failed place; few = omega arith; quiet = refl })
+  ends-byte b (answers a) = inl refl
+
+  ends-takes : (place : Place) (h : Happening) → Ends-or next seq code bytes tries (failureOf (waits seq code bytes tries place) h) h (takes (same-tries place) h)
+  ends-takes place (command other content) = inr (record { place = place; state = none-failed place; few = omega arith; quiet = refl })
+  ends-takes place (byte b) = ends-byte b (byteMeans seq code place b)
+  ends-takes place timeout = ends-failed timeout
+
+  ends-turn : (place : Place) (l : Lent)
+      → Ends-or next seq code bytes tries (cond (ltb (l .size) (room Command)) 0 (failureOf (waits seq code bytes tries place) (l .happens))) (l .happens) (says (same-tries place) l)
+  ends-turn place l = go (ltb (l .size) (room Command))
+    where
+      go : (short : Bool) → Ends-or next seq code bytes tries (cond short 0 (failureOf (waits seq code bytes tries place) (l .happens))) (l .happens)
+          (cond short (stays TooShort (same-tries place)) (takes (same-tries place) (l .happens)))
+      go true = inr (record { place = place; state = none-failed place; few = omega arith; quiet = refl })
+      go false = ends-takes place (l .happens)
+
+failures-few : (ls : List Lent) (next seq code : ℕ) (bytes : List ℕ) (tries : ℕ) (place : Place) → tries ≤ 5
+    → ends (marks (record { next = next; pending = waits seq code bytes tries place }) ls) ≡ false
+    → failures (record { next = next; pending = waits seq code bytes tries place }) ls + tries ≤ 5
+failures-few [] next seq code bytes tries place few e = omega arith
+failures-few (l ∷ ls) next seq code bytes tries place few e =
+    ⊎-elim
+    (λ over. absurd (false≢true (sym e ∙ ap (λ z. ends (z ++ marks (says s l .state) ls)) over)))
+    (λ on.
+    let f : ℕ = cond (ltb (l .size) (room Command)) 0 (failureOf (waits seq code bytes tries place) (l .happens)) in
+    let rest : failures (says s l .state) ls + (tries + f) ≤ 5 =
+    subst (λ (z : State). ends (marks z ls) ≡ false → failures z ls + (tries + f) ≤ 5) (sym (on .state))
+    (failures-few ls next seq code bytes (tries + f) (on .place) (on .few))
+    (sym (ap (λ z. ends (z ++ marks (says s l .state) ls)) (on .quiet)) ∙ e) in
+    omega arith)
+    (ends-turn next seq code bytes tries few place l)
+  where
+    s : State
+    s = record { next = next; pending = waits seq code bytes tries place }
+
+-- the theorem: a command whose frame was handed out once has ended once five tries have failed
+pub five-failed-tries-end : (ls : List Lent) (s : State) (seq code : ℕ) (bytes : List ℕ) (place : Place) → s .pending ≡ waits seq code bytes 1 place
+    → 5 ≤ failures s ls → ends (marks s ls) ≡ true
+five-failed-tries-end ls s seq code bytes place e =
+    subst (λ (p : Pending). 5 ≤ failures (record { next = s .next; pending = p }) ls → ends (marks (record { next = s .next; pending = p }) ls) ≡ true) (sym e)
+    (go (ends (marks (record { next = s .next; pending = waits seq code bytes 1 place }) ls)) refl)
+  where
+    go : (over : Bool) → ends (marks (record { next = s .next; pending = waits seq code bytes 1 place }) ls) ≡ over
+        → 5 ≤ failures (record { next = s .next; pending = waits seq code bytes 1 place }) ls → over ≡ true
+    go true h five = refl
+    go false h five = absurd (omega (arith, failures-few ls (s .next) seq code bytes 1 place (omega arith) h))
+
+-- where none waits, a command is taken exactly when its CMD and data may be sent: the SEQ always may
+seq-may : (k : ℕ) → mayStand SeqOrCmd (seqOf k) ≡ true
+seq-may k = ap (λ s. s && leb (seqOf k) 0xFF) (le-leb 0x20 (seqOf k) (omega arith)) ∙ le-leb (seqOf k) 0xFF (omega arith)
+
+can-send : (k code : ℕ) (content : List ℕ)
+    → sendable Command (commandOf (seqOf k) code content) ≡ (mayStand SeqOrCmd code && leb (length content) 200 && every (mayStand Data) content)
+can-send k code content =
+    sendable-command (seqOf k) code content
+    ∙ ap (λ s. s && mayStand SeqOrCmd code && leb (length content) 200 && every (mayStand Data) content) (seq-may k)
+
+pub taken-exactly : (ls : List Lent) (size code : ℕ) (content : List ℕ) → 210 ≤ size → watched ls .last ≡ none
+    → hears size (behind freshState ls) (command code content)
+    ≡ cond (mayStand SeqOrCmd code && leb (length content) 200 && every (mayStand Data) content)
+    (sent (seqOf (watched ls .commands)) (commandOf (seqOf (watched ls .commands)) code content)) (stays NotSent (behind freshState ls))
+taken-exactly ls size code content big e =
+    subst (λ (s : State). hears size s (command code content) ≡ cond fits (sent (seqOf k) (commandOf (seqOf k) code content)) (stays NotSent s)) (sym (state-seen ls))
+    (ap (λ short. cond short (stays TooShort (stateSeen (watched ls))) (takes (stateSeen (watched ls)) (command code content))) (le-ltb size 210 big)
+    ∙ subst (λ (o : Open). takes (stateSeen (record { commands = k; last = o })) (command code content)
+    ≡ cond fits (sent (seqOf k) (commandOf (seqOf k) code content)) (stays NotSent (stateSeen (record { commands = k; last = o })))) (sym e)
+    (ap (λ s. cond s (sent (seqOf k) (commandOf (seqOf k) code content)) (stays NotSent (stateSeen (record { commands = k; last = none })))) (can-send k code content)))
+  where
+    k : ℕ
+    k = watched ls .commands
+
+    fits : Bool
+    fits = mayStand SeqOrCmd code && leb (length content) 200 && every (mayStand Data) content
+
+-- what is seen with one event more
+watch-snoc : (ls : List Lent) (seen : Seen) (s : State) (l : Lent) → watch seen s (ls ++ l ∷ []) ≡ noted (watch seen s ls) (l .happens) (says (behind s ls) l)
+watch-snoc [] seen s l = refl
+watch-snoc (x ∷ ls) seen s l = watch-snoc ls (noted seen (x .happens) (says s x)) (says s x .state) l
+
+-- behind Unfinished, and behind Answered, no command waits
+pub unfinished-over : (ls : List Lent) (l : Lent) (n : ℕ) → says (behind freshState ls) l .word ≡ Unfinished n → watched (ls ++ l ∷ []) .last ≡ none
+unfinished-over ls l n e =
+    ap (λ (z : Seen). z .last) (watch-snoc ls nothingSeen freshState l)
+    ∙ ap (λ w. onWord (watched ls) (l .happens) w (says (behind freshState ls) l .puts) .last) e
+
+-- so an answer that comes after the fifth failed try is heard by nobody
+pub too-late : (ls : List Lent) (l : Lent) (n : ℕ) → says (behind freshState ls) l .word ≡ Unfinished n → (size b : ℕ) → 210 ≤ size
+    → says (behind freshState (ls ++ l ∷ [])) (record { size = size; happens = byte b }) ≡ stays Idle (behind freshState (ls ++ l ∷ []))
+too-late ls l n e size b big =
+    none-idle (ls ++ l ∷ []) size (byte b) (unfinished-over ls l n e) big (λ code content q. let z : _≡_ {A = ℕ} 0 1 = cc in omega arith)
+
+pub answered-over : (ls : List Lent) (l : Lent) (n : ℕ) → says (behind freshState ls) l .word ≡ Answered n → watched (ls ++ l ∷ []) .last ≡ none
+answered-over ls l n e =
+    ap (λ (z : Seen). z .last) (watch-snoc ls nothingSeen freshState l)
+    ∙ ap (λ w. onWord (watched ls) (l .happens) w (says (behind freshState ls) l .puts) .last) e
+
+-- 7 comes before all else, and changes nothing
+pub short-first : (s : State) (size : ℕ) (h : Happening) → size < 210 → hears size s h ≡ stays TooShort s
+short-first s size h e = ap (λ short. cond short (stays TooShort s) (takes s h)) (lt-ltb size 210 e)

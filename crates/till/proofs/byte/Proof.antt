@@ -1,0 +1,64 @@
+use mathlib.Core.Path.{refl, _∙_}
+use denote.Ref.{now}
+use lib.ListN.{take}
+use Rattle.reader.specs.Fields.{placeOf}
+use Rattle.till.specs.Turns.{byte, byteMeans}
+use Rattle.till.specs.declared.Word.the-variants.{Idle, TooShort}
+use Rattle.till.proofs.Outer.{too-short, byte-idle, byte-held, all-stays, idle-stays, read-same, said-on, says, puts, reads-in}
+use borrow.Author.Needs.{needs}
+use Rattle.till.proofs.byte.Statement.{statement}
+use Rattle.till.proofs.byte.Tie as tie
+
+returns : tie.Need-returns
+returns c =
+    let a = c .before .before .args in
+    let e = too-short (a .till) (now (a .frame)) (now (a .answer)) (now (a .buf)) (byte (a .b)) (c .if1 .taken) in (
+      says (a .till) (now (a .buf)) (now (a .buf)) _ _ _ e (all-stays (a .till) (now (a .frame)) (now (a .answer)) TooShort refl),
+      (
+        reads-in (a .till) (now (a .buf)) (now (a .buf)) (record { till = a .till; word = TooShort }) _ _ e (now (a .answer)) _ (read-same (a .till .sent) (now (a .frame)) (now (a .answer))),
+        puts (a .till) (now (a .buf)) _ (record { till = a .till; word = TooShort }) _ _ e refl,
+      ),
+    )
+
+enum-known-sent : tie.Need-enum-known-sent
+enum-known-sent c = search needs
+
+enum-told : tie.Need-enum-told
+enum-told c = search needs
+
+returns-2 : tie.Need-returns-2
+returns-2 c =
+    let a = c .before .before .before .before .args in
+    let free = c .enum-told .given .1 in
+    let e = byte-idle (a .till) (now (a .frame)) (now (a .answer)) (now (a .buf)) (c .before .before .if1 .left) (a .b) free in (
+      says (a .till) (now (a .buf)) (now (a .buf)) _ _ _ e (idle-stays (a .till) (now (a .frame)) (now (a .answer)) free),
+      (
+        reads-in (a .till) (now (a .buf)) (now (a .buf)) (record { till = a .till; word = Idle }) _ _ e (now (a .answer)) _ (read-same (a .till .sent) (now (a .frame)) (now (a .answer))),
+        puts (a .till) (now (a .buf)) _ (record { till = a .till; word = Idle }) _ _ e refl,
+      ),
+    )
+
+hear-requires : tie.Need-hear-requires
+hear-requires c κs = search needs
+
+same-length : tie.Need-same-length
+same-length c = search needs
+
+returns-3 : tie.Need-returns-3
+returns-3 c =
+    let a = c .before .before .before .before .before .before .before .before .before .before .before .args in
+    let h = c .before .before .hear in
+    let x = c .before .before .before .before .before .before .before .sent .given .0 .0 in
+    let e = byte-held (a .till) (now (a .frame)) (now (a .answer)) (now (a .buf)) (c .before .before .before .before .before .before .before .before .before .if1 .left) (a .b) x (c .before .before .before .before .before .before .before .sent .given .1) in (
+      says (a .till) (now (a .buf)) (now (a .buf)) (h .result) _ _ e
+          (h .ensures .0 ∙ said-on (a .till) (a .till .next) (x .seq) (x .code) (take (x .count) (now (a .frame))) (x .tries) (byteMeans (x .seq) (x .code) (placeOf (x .reader) (now (a .answer))) (a .b))),
+      (
+        reads-in (a .till) (now (a .buf)) (now (a .buf)) (h .result) _ _ e (now (a .answer)) _ (h .ensures .1 .0),
+        puts (a .till) (now (a .buf)) _ (h .result) _ _ e (h .ensures .1 .1),
+      ),
+    )
+
+pub byte-spec : {M : Type 1} → statement M
+byte-spec =
+    tie.close
+    (tie.spec returns enum-known-sent enum-told returns-2 hear-requires same-length returns-3)

@@ -1,0 +1,93 @@
+use mathlib.Core.Path.{_≡_, _∙_}
+use native.Mathlib.Omega.{arith}
+use lib.ListN.{length}
+use denote.Ref.{now}
+use Rattle.wire.specs.Frame.{commandOf}
+use Rattle.wire.specs.declared.Kind.the-variants.{Command}
+use Rattle.reader.proofs.RoundTrip.{frame-size}
+use Rattle.till.proofs.Outer.{built-frame, built-short, built-not, says-not, says-sent}
+use borrow.Author.Needs.{needs}
+use Rattle.till.proofs.send.Statement.{statement}
+use Rattle.till.proofs.send.Tie as tie
+
+build-command-requires : tie.Need-build-command-requires
+build-command-requires c κs = search needs
+
+enum-told : tie.Need-enum-told
+enum-told c = search needs
+
+free-requires : tie.Need-free-requires
+free-requires c κs = search needs
+
+enum-told-2 : tie.Need-enum-told-2
+enum-told-2 c = search needs
+
+free-requires-2 : tie.Need-free-requires-2
+free-requires-2 c κs = search needs
+
+enum-known-built : tie.Need-enum-known-built
+enum-known-built c = search needs
+
+cast-count : tie.Need-cast-count
+cast-count c =
+    let a = c .before .before .before .before .before .before .before .args in
+    let size : length (now (a .frame)) ≡ 256 = omega arith in
+    let built = built-frame (a .next) (a .code) (now (a .content)) (now (a .frame)) size _ _ _ (c .before .built .given .1) (c .before .before .before .build-command .ensures) in
+    omega (arith, built .1 .0, frame-size Command (commandOf (a .next) (a .code) (now (a .content))) (built .0) .1)
+
+hand-out-requires : tie.Need-hand-out-requires
+hand-out-requires c κs = search needs
+
+fresh-requires : tie.Need-fresh-requires
+fresh-requires c κs = search needs
+
+seq-after-requires : tie.Need-seq-after-requires
+seq-after-requires c κs = search needs
+
+held-requires : tie.Need-held-requires
+held-requires c κs = search needs
+
+returns : tie.Need-returns
+returns c =
+    let a = c .before .before .before .before .before .before .before .args in
+    let size : length (now (a .frame)) ≡ 256 = omega arith in
+    absurd (built-short (a .next) (a .code) (now (a .content)) (now (a .frame)) size _ _ (c .before .enum-told .given .1) (c .before .before .before .build-command .ensures))
+
+returns-2 : tie.Need-returns-2
+returns-2 c =
+    let a = c .before .before .before .before .before .before .before .args in
+    let size : length (now (a .frame)) ≡ 256 = omega arith in
+    let built = built-not (a .next) (a .code) (now (a .content)) (now (a .frame)) size _ _ (c .before .enum-told2 .given .1) (c .before .before .before .build-command .ensures) in
+    let all = says-not (a .next) (a .code) (now (a .content)) (now (a .frame)) size (built .0) _ (now (a .buf)) (built .1) in
+    (c .free2 .ensures ∙ all .0, all .1)
+
+same-length : tie.Need-same-length
+same-length c = search needs
+
+returns-3 : tie.Need-returns-3
+returns-3 c =
+    let a = c .before .before .before .before .before .before .before .before .before .before .before .before .before .before .before .before .args in
+    let size : length (now (a .frame)) ≡ 256 = omega arith in
+    let built = built-frame (a .next) (a .code) (now (a .content)) (now (a .frame)) size _ _ _ (c .before .before .before .before .before .before .before .before .before .before .built .given .1) (c .before .before .before .before .before .before .before .before .before .before .before .before .build-command .ensures) in
+    let all = says-sent (a .next) (a .code) (now (a .content)) (now (a .frame)) size (built .0) _ (built .1 .0) _ (now (a .buf)) _ (built .1 .1) (c .before .before .before .before .before .hand-out .ensures) _ (c .before .seq-after .ensures) _ (c .before .before .fresh .ensures) in
+    (c .held .ensures ∙ all .0, all .1)
+
+pub send-spec : {M : Type 1} → statement M
+send-spec =
+    tie.close
+    (tie.spec
+    build-command-requires
+    enum-told
+    free-requires
+    enum-told-2
+    free-requires-2
+    enum-known-built
+    cast-count
+    hand-out-requires
+    fresh-requires
+    seq-after-requires
+    held-requires
+    returns
+    returns-2
+    same-length
+    returns-3)

@@ -1,0 +1,58 @@
+use mathlib.Core.Path.{refl, _∙_}
+use denote.Ref.{now}
+use lib.ListN.{take}
+use Rattle.till.specs.Turns.{timeout, failed}
+use Rattle.till.specs.declared.Word.the-variants.{Idle, TooShort}
+use Rattle.till.proofs.Outer.{too-short, timeout-idle, timeout-held, all-stays, idle-stays, said-on, says, puts}
+use borrow.Author.Needs.{needs}
+use Rattle.till.proofs.timeout.Statement.{statement}
+use Rattle.till.proofs.timeout.Tie as tie
+
+returns : tie.Need-returns
+returns c =
+    let a = c .before .before .args in (
+      λ answer. says (a .till) (now (a .buf)) (now (a .buf)) _ _ _ (too-short (a .till) (now (a .frame)) answer (now (a .buf)) timeout (c .if1 .taken)) (all-stays (a .till) (now (a .frame)) answer TooShort refl),
+      λ answer. puts (a .till) (now (a .buf)) _ (record { till = a .till; word = TooShort }) _ _ (too-short (a .till) (now (a .frame)) answer (now (a .buf)) timeout (c .if1 .taken)) refl,
+    )
+
+enum-known-sent : tie.Need-enum-known-sent
+enum-known-sent c = search needs
+
+enum-told : tie.Need-enum-told
+enum-told c = search needs
+
+returns-2 : tie.Need-returns-2
+returns-2 c =
+    let a = c .before .before .before .before .args in
+    let free = c .enum-told .given .1 in (
+      λ answer. says (a .till) (now (a .buf)) (now (a .buf)) _ _ _ (timeout-idle (a .till) (now (a .frame)) answer (now (a .buf)) (c .before .before .if1 .left) free) (idle-stays (a .till) (now (a .frame)) answer free),
+      λ answer. puts (a .till) (now (a .buf)) _ (record { till = a .till; word = Idle }) _ _ (timeout-idle (a .till) (now (a .frame)) answer (now (a .buf)) (c .before .before .if1 .left) free) refl,
+    )
+
+failed-try-requires : tie.Need-failed-try-requires
+failed-try-requires c κs = search needs
+
+same-length : tie.Need-same-length
+same-length c = search needs
+
+returns-3 : tie.Need-returns-3
+returns-3 c =
+    let a = c .before .before .before .before .before .before .before .before .before .before .args in
+    let h = c .before .before .failed-try in
+    let x = c .before .before .before .before .before .before .sent .given .0 .0 in (
+      λ answer. says (a .till) (now (a .buf)) (now (a .buf)) (h .result) _ _ (timeout-held (a .till) (now (a .frame)) answer (now (a .buf)) (c .before .before .before .before .before .before .before .before .if1 .left) x (c .before .before .before .before .before .before .sent .given .1))
+          (h .ensures .0 ∙ said-on (a .till) (a .till .next) (x .seq) (x .code) (take (x .count) (now (a .frame))) (x .tries) failed),
+      λ answer. puts (a .till) (now (a .buf)) _ (h .result) _ _ (timeout-held (a .till) (now (a .frame)) answer (now (a .buf)) (c .before .before .before .before .before .before .before .before .if1 .left) x (c .before .before .before .before .before .before .sent .given .1)) (h .ensures .1),
+    )
+
+pub timeout-spec : {M : Type 1} → statement M
+timeout-spec =
+    tie.close
+    (tie.spec
+    returns
+    enum-known-sent
+    enum-told
+    returns-2
+    failed-try-requires
+    same-length
+    returns-3)

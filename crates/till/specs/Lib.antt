@@ -1,0 +1,6 @@
+pub mod Words
+pub mod Turns
+pub mod Fields
+pub mod History
+pub mod Promises
+pub mod Private

@@ -1,0 +1,320 @@
+// The till end: it hands out command frames, hears the device's bytes, and gives a command up after five tries (document 01, "The till end").
+use reader::Heard;
+use reader::Reader;
+use wire::Built;
+use wire::Kind;
+ghost use mathlib.Core.Path.{_≡_};
+ghost use mathlib.Core.Bool.{false, cond};
+ghost use mathlib.Core.List.{List, _++_};
+ghost use Prim.Native.Nat.{ℕ, _+_, _≤_, _<_};
+ghost use lib.Dec.{eqb};
+ghost use lib.ListN.{length, take, drop};
+ghost use lib.Seq.{sets};
+ghost use Rattle.till.specs.Words.{numberOf, countOf};
+ghost use Rattle.till.specs.Turns.{command, byte, timeout, freshState, seqAfter};
+ghost use Rattle.till.specs.Fields.{tillOf, framed, readIn, saidOf, turnOf};
+ghost use Rattle.till.specs.Private.{toldOf, failedBy, heardBy, sentBy};
+ghost use Rattle.till.specs.declared.Sent.the-variants.{Free, Held};
+ghost use Rattle.till.specs.declared.Word.the-variants.{Waiting, Answered, NotSent};
+
+// A command that waits. Its frame is the first `count` bytes of a lent array.
+pub struct Attempt {
+    pub seq: u8,
+    pub code: u8,
+    pub tries: u8,
+    pub count: u8,
+    pub reader: Reader,
+}
+
+pub enum Sent {
+    Free,
+    Held(Attempt),
+}
+
+// `next` is the SEQ of the next command.
+pub struct Till {
+    pub next: u8,
+    pub sent: Sent,
+}
+
+// What the till end says, with how many bytes it put in the lent buffer, or the number of tries.
+pub enum Word {
+    Idle,
+    Waiting(usize),
+    SendAgain(usize),
+    Answered(usize),
+    Unfinished(usize),
+    TooShort,
+    NotSent,
+}
+
+pub struct Said {
+    pub till: Till,
+    pub word: Word,
+}
+
+pub fn fresh() -> Till
+    ensures { λ r. ⌜ r ≡ tillOf freshState ⌝ }
+{
+    Till {
+        next: 0x20,
+        sent: Sent::Free,
+    }
+}
+
+// The reply number of a word.
+pub fn number(word: Word) -> u8
+    ensures { λ r. ⌜ r ≡ numberOf word ⌝ }
+{
+    match word {
+        Word::Idle => 0,
+        Word::Waiting(_) => 0,
+        Word::SendAgain(_) => 0,
+        Word::Answered(_) => 0,
+        Word::Unfinished(_) => 9,
+        Word::TooShort => 7,
+        Word::NotSent => 8,
+    }
+}
+
+// What a word gives back: a count of bytes, or of tries.
+pub fn count(word: Word) -> usize
+    ensures { λ r. ⌜ r ≡ countOf word ⌝ }
+{
+    match word {
+        Word::Idle => 0,
+        Word::Waiting(n) => n,
+        Word::SendAgain(n) => n,
+        Word::Answered(n) => n,
+        Word::Unfinished(n) => n,
+        Word::TooShort => 0,
+        Word::NotSent => 0,
+    }
+}
+
+// A command to be sent. The answer's array is not lent: nothing that it holds plays a part.
+pub fn command(till: Till, frame: &mut [u8; 256], code: u8, content: &[u8], buf: &mut [u8]) -> Said
+    ensures { λ r. ⌜ ((answer : List ℕ) → r ≡ saidOf till (turnOf till (now (frame .entry)) answer (now (buf .entry)) (command code (now (content .entry))))) ⌝ }
+    ensures { λ r. ⌜ ((answer : List ℕ) → now (frame .exit) ≡ framed (now (frame .entry)) (turnOf till (now (frame .entry)) answer (now (buf .entry)) (command code (now (content .entry))) .state .pending)) ⌝ }
+    ensures { λ r. ⌜ ((answer : List ℕ) → now (buf .exit) ≡ sets (now (buf .entry)) 0 (turnOf till (now (frame .entry)) answer (now (buf .entry)) (command code (now (content .entry))) .puts)) ⌝ }
+{
+    if buf.len() < 210 {
+        return Said {
+            till,
+            word: Word::TooShort,
+        };
+    }
+    let sent = till.sent;
+    let Sent::Free = sent else {
+        return Said {
+            till,
+            word: Word::NotSent,
+        };
+    };
+    send(till.next, frame, code, content, buf)
+}
+
+// The frame is built in its own array, and handed out from there at every try.
+fn send(next: u8, frame: &mut [u8; 256], code: u8, content: &[u8], buf: &mut [u8]) -> Said
+    ensures { λ r. ⌜ r ≡ toldOf (sentBy next code (now (content .entry))) ⌝ }
+    ensures { λ r. ⌜ now (frame .exit) ≡ framed (now (frame .entry)) (sentBy next code (now (content .entry)) .state .pending) ⌝ }
+    ensures { λ r. ⌜ now (buf .exit) ≡ sets (now (buf .entry)) 0 (sentBy next code (now (content .entry)) .puts) ⌝ }
+{
+    let built = wire::build::build_command(frame, next, code, content);
+    match built {
+        Built::Short => free(next, Word::NotSent),
+        Built::Unsendable => free(next, Word::NotSent),
+        Built::Frame(n) => {
+            let count = n as u8;
+            hand_out(&*frame, count, buf);
+            let first = Attempt {
+                seq: next,
+                code,
+                tries: 1,
+                count,
+                reader: reader::fresh(),
+            };
+            held(seq_after(next), first, Word::Waiting(n))
+        }
+    }
+}
+
+// What is said where a command waits, and where none does.
+fn held(next: u8, a: Attempt, word: Word) -> Said
+    ensures { λ r. ⌜ r ≡ record { till = record { next = next; sent = Held a }; word = word } ⌝ }
+{
+    Said {
+        till: Till {
+            next,
+            sent: Sent::Held(a),
+        },
+        word,
+    }
+}
+
+fn free(next: u8, word: Word) -> Said
+    ensures { λ r. ⌜ r ≡ record { till = record { next = next; sent = Free }; word = word } ⌝ }
+{
+    Said {
+        till: Till {
+            next,
+            sent: Sent::Free,
+        },
+        word,
+    }
+}
+
+fn seq_after(seq: u8) -> u8
+    ensures { λ r. ⌜ r ≡ seqAfter seq ⌝ }
+{
+    if seq == 0xFF {
+        return 0x20;
+    }
+    seq + 1
+}
+
+// The frame's bytes at the front of the lent buffer.
+fn hand_out(frame: &[u8], count: u8, buf: &mut [u8])
+    requires { ⌜ length (now frame) ≡ 256 ⌝ }
+    ensures { λ r. ⌜ now (buf .exit) ≡ sets (now (buf .entry)) 0 (take count (now (frame .entry))) ⌝ }
+{
+    let n = count as usize;
+    text::put_bytes(buf, 0, &frame[0..n]);
+}
+
+// A byte from the line.
+pub fn byte(till: Till, frame: &[u8; 256], answer: &mut [u8; 256], b: u8, buf: &mut [u8]) -> Said
+    ensures { λ r. ⌜ r ≡ saidOf till (turnOf till (now (frame .entry)) (now (answer .entry)) (now (buf .entry)) (byte b)) ⌝ }
+    ensures { λ r. ⌜ now (answer .exit) ≡ readIn (now (answer .entry)) (turnOf till (now (frame .entry)) (now (answer .entry)) (now (buf .entry)) (byte b) .state .pending) ⌝ }
+    ensures { λ r. ⌜ now (buf .exit) ≡ sets (now (buf .entry)) 0 (turnOf till (now (frame .entry)) (now (answer .entry)) (now (buf .entry)) (byte b) .puts) ⌝ }
+{
+    if buf.len() < 210 {
+        return Said {
+            till,
+            word: Word::TooShort,
+        };
+    }
+    let sent = till.sent;
+    let Sent::Held(a) = sent else {
+        return Said {
+            till,
+            word: Word::Idle,
+        };
+    };
+    hear(till.next, a, frame, answer, b, buf)
+}
+
+// A byte to a command that waits.
+fn hear(next: u8, a: Attempt, frame: &[u8], answer: &mut [u8; 256], b: u8, buf: &mut [u8]) -> Said
+    requires { ⌜ length (now frame) ≡ 256 ⌝ }
+    ensures { λ r. ⌜ r ≡ toldOf (heardBy next a (now (frame .entry)) (now (answer .entry)) b) ⌝ }
+    ensures { λ r. ⌜ now (answer .exit) ≡ readIn (now (answer .entry)) (heardBy next a (now (frame .entry)) (now (answer .entry)) b .state .pending) ⌝ }
+    ensures { λ r. ⌜ now (buf .exit) ≡ sets (now (buf .entry)) 0 (heardBy next a (now (frame .entry)) (now (answer .entry)) b .puts) ⌝ }
+{
+    let reader = a.reader;
+    if nak_outside(reader.inside, b) {
+        return failed_try(next, a, frame, buf);
+    }
+    let taken = reader::take_byte(Kind::Answer, reader, answer, b);
+    let after = taken.reader;
+    let heard = taken.heard;
+    match heard {
+        Heard::Nothing => goes_on(next, a, after),
+        Heard::Broken => {
+            if b == 0x01 {
+                return goes_on(next, a, after);
+            }
+            failed_try(next, a, frame, buf)
+        }
+        Heard::Whole { seq, code, count } => {
+            if seq != a.seq {
+                return failed_try(next, a, frame, buf);
+            }
+            if code != a.code {
+                return failed_try(next, a, frame, buf);
+            }
+            answered(next, &*answer, count, buf)
+        }
+    }
+}
+
+fn nak_outside(within: bool, b: u8) -> bool
+    ensures { λ r. ⌜ r ≡ cond within false (eqb b 0x15) ⌝ }
+{
+    if within {
+        return false;
+    }
+    b == 0x15
+}
+
+// One byte more, of an answer or beside one. That the count is a byte is for its caller.
+fn goes_on(next: u8, a: Attempt, reader: Reader) -> Said
+    ensures { λ r. ⌜ a .count < 256 ⌝ }
+    ensures { λ r. ⌜ r ≡ record { till = record { next = next; sent = Held (record { seq = a .seq; code = a .code; tries = a .tries; count = a .count; reader = reader }) }; word = Waiting 0 } ⌝ }
+{
+    let more = Attempt {
+        seq: a.seq,
+        code: a.code,
+        tries: a.tries,
+        count: a.count,
+        reader,
+    };
+    held(next, more, Word::Waiting(0))
+}
+
+// The answer's n data bytes, and behind them its six status bytes.
+fn answered(next: u8, answer: &[u8], n: usize, buf: &mut [u8]) -> Said
+    requires { ⌜ n + 10 ≤ length (now answer) ⌝ }
+    ensures { λ r. ⌜ r ≡ record { till = record { next = next; sent = Free }; word = Answered (n + 6) } ⌝ }
+    ensures { λ r. ⌜ now (buf .exit) ≡ sets (now (buf .entry)) 0 (take n (drop 3 (now (answer .entry))) ++ take 6 (drop (4 + n) (now (answer .entry)))) ⌝ }
+{
+    let end = n + 3;
+    let from = n + 4;
+    let behind = n + 10;
+    text::put_bytes(buf, 0, &answer[3..end]);
+    text::put_bytes(buf, n, &answer[from..behind]);
+    free(next, Word::Answered(n + 6))
+}
+
+// The same frame again, up to the fifth try.
+fn failed_try(next: u8, a: Attempt, frame: &[u8], buf: &mut [u8]) -> Said
+    requires { ⌜ length (now frame) ≡ 256 ⌝ }
+    ensures { λ r. ⌜ r ≡ toldOf (failedBy next a (now (frame .entry))) ⌝ }
+    ensures { λ r. ⌜ now (buf .exit) ≡ sets (now (buf .entry)) 0 (failedBy next a (now (frame .entry)) .puts) ⌝ }
+{
+    let tries = a.tries;
+    let count = a.count;
+    if tries < 5 {
+        hand_out(frame, count, buf);
+        let again = Attempt {
+            seq: a.seq,
+            code: a.code,
+            tries: tries + 1,
+            count,
+            reader: reader::fresh(),
+        };
+        return held(next, again, Word::SendAgain(count as usize));
+    }
+    free(next, Word::Unfinished(tries as usize))
+}
+
+// No byte in time. The answer's array plays no part here either: a failed try leaves it.
+pub fn timeout(till: Till, frame: &[u8; 256], buf: &mut [u8]) -> Said
+    ensures { λ r. ⌜ ((answer : List ℕ) → r ≡ saidOf till (turnOf till (now (frame .entry)) answer (now (buf .entry)) timeout)) ⌝ }
+    ensures { λ r. ⌜ ((answer : List ℕ) → now (buf .exit) ≡ sets (now (buf .entry)) 0 (turnOf till (now (frame .entry)) answer (now (buf .entry)) timeout .puts)) ⌝ }
+{
+    if buf.len() < 210 {
+        return Said {
+            till,
+            word: Word::TooShort,
+        };
+    }
+    let sent = till.sent;
+    let Sent::Held(a) = sent else {
+        return Said {
+            till,
+            word: Word::Idle,
+        };
+    };
+    failed_try(till.next, a, frame, buf)
+}

@@ -1,0 +1,138 @@
+// A till end told of a list of events, and what it says of each. An event is the length of the buffer lent, then 43h, n, CMD and n bytes: a
+// command; 42h and a byte: a byte from the line; 54h: a timeout.
+use libc::STDIN_FILENO;
+use libc::STDOUT_FILENO;
+use till::Said;
+use till::Till;
+use till::Word;
+ghost use Prim.Native.Nat.{_<_};
+
+// Events are read one by one to the end of the input. The count of turns only shows that the loop ends.
+fn main() {
+    let mut frame = [0u8; 256];
+    let mut answer = [0u8; 256];
+    let mut event = [0u8; 259];
+    let mut buf = [0u8; 256];
+    let mut till = till::fresh();
+    let mut left: u64 = 0xFFFFFFFFFFFFFFFF;
+    while 0 < left {
+        let n = next_event(&mut event);
+        if n == 0 {
+            return;
+        }
+        till = tell(till, &mut frame, &mut answer, &event, n, &mut buf);
+        left -= 1;
+    }
+}
+
+// The next event at the front of the buffer, and its length: 0 where the input ends, or what comes is none.
+fn next_event(event: &mut [u8]) -> usize {
+    if event.len() < 259 {
+        return 0;
+    }
+    if io::read_full(STDIN_FILENO, &mut event[0..2]) < 2 {
+        return 0;
+    }
+    if event[1] == b'T' {
+        return 2;
+    }
+    if io::read_full(STDIN_FILENO, &mut event[2..3]) < 1 {
+        return 0;
+    }
+    if event[1] == b'B' {
+        return 3;
+    }
+    if event[1] != b'C' {
+        return 0;
+    }
+    command_data(event)
+}
+
+// CMD and the data, behind the number of data bytes.
+fn command_data(event: &mut [u8]) -> usize {
+    if event.len() < 259 {
+        return 0;
+    }
+    let end = wide(event[2]) + 4;
+    if io::read_full(STDIN_FILENO, &mut event[3..end]) < end - 3 {
+        return 0;
+    }
+    end
+}
+
+fn wide(b: u8) -> usize
+    ensures { λ r. ⌜ r < 256 ⌝ }
+{
+    b as usize
+}
+
+// One event, its first n bytes. What is lent is the front of the buffer.
+fn tell(
+    till: Till,
+    frame: &mut [u8; 256],
+    answer: &mut [u8; 256],
+    event: &[u8],
+    n: usize,
+    buf: &mut [u8],
+) -> Till {
+    if n < 2 {
+        return till;
+    }
+    if event.len() < n {
+        return till;
+    }
+    let lent = wide(event[0]);
+    if buf.len() < lent {
+        return till;
+    }
+    let said = happen(till, frame, answer, &event[1..n], &mut buf[0..lent]);
+    let after = said.till;
+    let word = said.word;
+    say(word, &*buf);
+    after
+}
+
+fn happen(
+    till: Till,
+    frame: &mut [u8; 256],
+    answer: &mut [u8; 256],
+    s: &[u8],
+    buf: &mut [u8],
+) -> Said {
+    if s.len() < 2 {
+        return till::timeout(till, &*frame, buf);
+    }
+    if s[0] == b'B' {
+        return till::byte(till, &*frame, answer, s[1], buf);
+    }
+    if s.len() < 3 {
+        return till::timeout(till, &*frame, buf);
+    }
+    till::command(till, frame, s[2], &s[3..], buf)
+}
+
+// The reply number, the word, the count, and the bytes put in the buffer; of Unfinished the tries alone.
+fn say(word: Word, buf: &[u8]) {
+    let n = till::count(word);
+    let head = [till::number(word), place(word), (n % 256) as u8];
+    io::write_all(STDOUT_FILENO, &head);
+    if till::number(word) != 0 {
+        return;
+    }
+    if n <= buf.len() {
+        io::write_all(STDOUT_FILENO, &buf[0..n]);
+    }
+}
+
+// The word's place in document 01's list.
+fn place(word: Word) -> u8 {
+    match word {
+        Word::TooShort => 0,
+        Word::NotSent => 0,
+        Word::Idle => 1,
+        Word::Waiting(_) => 2,
+        Word::SendAgain(_) => 3,
+        Word::Answered(_) => 4,
+        Word::Unfinished(_) => 5,
+    }
+}
