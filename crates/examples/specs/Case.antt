@@ -8,7 +8,7 @@ use Rattle.wire.specs.Frame.{Message, commandOf, answerOf, frame}
 use Rattle.wire.specs.declared.Kind.the-variants.{Command, Answer}
 use Rattle.books.specs.Books.{freshBooks}
 use Rattle.books.specs.declared.Books.{Books}
-use Rattle.line.specs.Turns.{State, Session, switchedOn, session}
+use Rattle.line.specs.Turns.{State, switchedOn, session}
 use Rattle.device.specs.Carrying.{carry}
 
 -- a text as bytes; \t is Tab
