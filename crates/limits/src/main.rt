@@ -82,7 +82,6 @@ fn hear(
     last: &mut [u8; 217],
     bytes: &[u8],
 ) -> Given {
-    let mut buf = [0u8; 217];
     let mut given = Given {
         line,
         books,
@@ -93,10 +92,16 @@ fn hear(
     while i < bytes.len() {
         let l = given.line;
         let b = given.books;
-        given = device::take_byte(l, b, frame, last, &mut buf, bytes[i]);
+        given = take(l, b, frame, last, bytes[i]);
         i += 1;
     }
     given
+}
+
+// The bytes given back are not looked at.
+fn take(line: Line, books: Books, frame: &mut [u8; 256], last: &mut [u8; 217], b: u8) -> Given {
+    let mut buf = [0u8; 217];
+    device::take_byte(line, books, frame, last, &mut buf, b)
 }
 
 // Command 42 with n data bytes.
