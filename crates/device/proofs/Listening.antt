@@ -18,7 +18,7 @@ use Rattle.reader.proofs.Running.{place-back, read-room, place-room, kept-lengt
 use Rattle.books.specs.Books.{freshBooks}
 use Rattle.books.specs.declared.Books.{Books}
 use Rattle.line.specs.Turns.{Before, was, State, Turn, turn, onEvent, Session, session, repeats}
-use Rattle.line.specs.Calls.{beforeOf, isRepeat, callOf, calledOf}
+use Rattle.line.specs.Calls.{beforeOf, isRepeat, isQuiet, callOf, calledOf}
 use Rattle.line.specs.declared.Call.{Call}
 use Rattle.line.specs.declared.Call.the-variants.{Quiet, Nak, Again, Order}
 use Rattle.line.specs.declared.Called.{Called}
@@ -28,7 +28,7 @@ use Rattle.device.specs.Carrying.{carry}
 use Rattle.device.specs.Device.{After, stateOf, taken, previousAfter, lastAfter}
 use Rattle.device.specs.Recording.{recording, listed, listing, Told, toldIn}
 use Rattle.device.specs.Answering.{answering}
-use Rattle.device.specs.Private.{listedCall, isQuiet}
+use Rattle.device.specs.Private.{listedCall}
 use Rattle.device.specs.declared.Given.{Given}
 use Rattle.device.proofs.Working.{front-back, front-stands, take-min}
 use Rattle.device.proofs.Turning.{Standing-in, heard-whole, same-repeat, turn-is, againTurn, orderTurn}

@@ -23,7 +23,9 @@ use Rattle.line.specs.declared.Previous.{Previous}
 use Rattle.line.specs.declared.Previous.the-variants.{Nothing, Frame}
 use Rattle.device.specs.Carrying.{carry}
 use Rattle.device.specs.Device.{After, stateOf, taken, notTaken, afterByte}
-use Rattle.device.specs.Answering.{answering, orders, gives}
+use Rattle.line.specs.declared.Call.{Call}
+use Rattle.device.specs.declared.Given.{Given}
+use Rattle.device.specs.Answering.{answering, orders, gives, responding}
 
 -- a part of a part is a beginning
 take-take : (n c : ℕ) (xs : List ℕ) → take (length (take n (take c xs))) xs ≡ take n (take c xs)
@@ -132,3 +134,14 @@ module _ (l : Line) (b : Books) (frame last buffer : List ℕ) where
       ea ∙ ap (λ (z : Called). answering (z .line) b (z .call) frame' last buffer) ec
       ∙ turn-is (at .place) (at .event) (heard-whole (l .reader) frame byte) frame' ef
       ∙ sym (ap (λ z. cond z (notTaken l b frame last buffer) (taken l frame last buffer (turn carry state byte))) (le-ltb (length buffer) 217 room))
+
+-- a call, with the buffer looked at first
+module _ (l : Line) (b : Books) (call : Call) (frame last buffer : List ℕ) where
+  pub respond-short : (g : Given) → g ≡ record { line = l; books = b; number = 7; count = 0 } → length buffer < 217
+      → record { given = g; frame = frame; last = last; buffer = buffer } ≡ responding l b call frame last buffer
+  respond-short g eg h =
+      ap (λ z. record { given = z; frame = frame; last = last; buffer = buffer }) eg
+      ∙ sym (ap (λ z. cond z (notTaken l b frame last buffer) (answering l b call frame last buffer)) (lt-ltb (length buffer) 217 h))
+
+  pub respond-long : (a : After) → a ≡ answering l b call frame last buffer → 217 ≤ length buffer → a ≡ responding l b call frame last buffer
+  respond-long a ea h = ea ∙ sym (ap (λ z. cond z (notTaken l b frame last buffer) (answering l b call frame last buffer)) (le-ltb (length buffer) 217 h))

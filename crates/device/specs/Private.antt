@@ -40,9 +40,3 @@ listedCall Quiet frame = []
 listedCall Nak frame = []
 listedCall Again frame = []
 listedCall (Order seq code n) frame = listed (commandOf seq code (take n (drop 3 frame)))
-
-abbrev pub isQuiet : Call → Bool
-isQuiet Quiet = true
-isQuiet Nak = false
-isQuiet Again = false
-isQuiet (Order seq code n) = false

@@ -18,7 +18,7 @@ ghost use Rattle.device.specs.Carrying.{deedFor, carry};
 ghost use Rattle.device.specs.Device.{After, afterByte};
 ghost use Rattle.device.specs.Recording.{recording, toldIn};
 ghost use Rattle.device.specs.Answering.{answering, orders, responding};
-ghost use Rattle.device.specs.Private.{Lent, workOf, sizeOf, listedCall, isQuiet};
+ghost use Rattle.device.specs.Private.{Lent, workOf, sizeOf, listedCall};
 
 // What a byte brought: the device afterwards, the reply number, and how many bytes of the lent buffer are given back.
 pub struct Given {
@@ -249,7 +249,7 @@ pub fn hear_all(bytes: &[u8], out: &mut [u8], orders: &mut [u8]) -> Recorded
         let call = called.call;
         line = next;
         i += 1;
-        if is_quiet(call) {
+        if line::is_quiet(call) {
             continue;
         }
         listed = list_call(call, &frame, orders, listed);
@@ -265,21 +265,6 @@ pub fn hear_all(bytes: &[u8], out: &mut [u8], orders: &mut [u8]) -> Recorded
         books,
         given,
         listed,
-    }
-}
-
-pub fn is_quiet(call: Call) -> bool
-    ensures { λ r. ⌜ r ≡ isQuiet call ⌝ }
-{
-    match call {
-        Call::Quiet => true,
-        Call::Nak => false,
-        Call::Again => false,
-        Call::Order {
-            seq: _,
-            code: _,
-            count: _,
-        } => false,
     }
 }
 

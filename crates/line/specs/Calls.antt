@@ -1,6 +1,6 @@
 -- What the line's fields and answers say: a byte that asks for nothing, for NAK (5), for the last answer again (6), or a command to carry out.
 use Prim.Native.Nat.{ℕ}
-use mathlib.Core.Bool.{Bool, false, cond, _&&_}
+use mathlib.Core.Bool.{Bool, true, false, cond, _&&_}
 use mathlib.Core.List.{List}
 use lib.Dec.{eqb}
 use lib.ListN.{length, take}
@@ -35,3 +35,10 @@ abbrev pub calledOf : Line → List ℕ → ℕ → Called
 calledOf l frame b =
     let step = read Command (placeOf (l .reader) frame) b in
     record { line = record { reader = readerOf (step .place); previous = l .previous }; call = callOf (l .previous) (step .event) }
+
+-- a byte that asks for nothing
+abbrev pub isQuiet : Call → Bool
+isQuiet Quiet = true
+isQuiet Nak = false
+isQuiet Again = false
+isQuiet (Order seq code n) = false

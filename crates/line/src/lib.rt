@@ -6,7 +6,7 @@ ghost use mathlib.Core.Path.{_≡_};
 ghost use Rattle.wire.specs.declared.Kind.the-variants.{Command};
 ghost use Rattle.reader.specs.Reading.{read, outside};
 ghost use Rattle.reader.specs.Fields.{placeOf, readerOf, keptIn};
-ghost use Rattle.line.specs.Calls.{isRepeat, calledOf};
+ghost use Rattle.line.specs.Calls.{isRepeat, isQuiet, calledOf};
 ghost use Rattle.line.specs.declared.Previous.the-variants.{Nothing};
 
 // The whole frame before. Its answer is the first `count` bytes of a lent array.
@@ -86,5 +86,20 @@ fn is_repeat(p: Previous, seq: u8, code: u8) -> bool
             }
             false
         }
+    }
+}
+
+pub fn is_quiet(call: Call) -> bool
+    ensures { λ r. ⌜ r ≡ isQuiet call ⌝ }
+{
+    match call {
+        Call::Quiet => true,
+        Call::Nak => false,
+        Call::Again => false,
+        Call::Order {
+            seq: _,
+            code: _,
+            count: _,
+        } => false,
     }
 }

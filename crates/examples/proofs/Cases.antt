@@ -1,0 +1,10 @@
+-- Document 01's marked examples: the table, worked out by the definitions, is the table.
+use mathlib.Core.Path.{_≡_, refl}
+use mathlib.Core.List.{map}
+use Rattle.text.specs.Digits.{digits, number}
+use Rattle.examples.specs.Case.{worked}
+use Rattle.examples.specs.Cases.{cases}
+
+pub every-case-holds : map worked cases ≡ cases
+unfolding digits number
+every-case-holds = refl

@@ -1,0 +1,140 @@
+// Document 01, example 7: as much as a receipt and a frame hold, and one more.
+use books::Books;
+use device::Given;
+use libc::STDOUT_FILENO;
+use line::Line;
+use wire::Built;
+
+fn main() {
+    word(b"999999.99: ");
+    fill(b"\tB999999.99");
+    word(b"0.01: ");
+    fill(b"\tB0.01");
+    sends(200);
+    sends(201);
+}
+
+// Lines of this sale on one receipt of a fresh device, until one is refused.
+fn fill(sale: &[u8]) {
+    let mut frame = [0u8; 256];
+    let mut last = [0u8; 217];
+    let mut given = send(
+        line::fresh(),
+        books::fresh(),
+        &mut frame,
+        &mut last,
+        0x20,
+        48,
+        b"1,0000,1",
+    );
+    let mut taken = 0u64;
+    while taken < 1000 {
+        let l = given.line;
+        let b = given.books;
+        given = send(l, b, &mut frame, &mut last, seq(taken), 49, sale);
+        let number = given.number;
+        if number != 0 {
+            tell(taken, number);
+            return;
+        }
+        taken += 1;
+    }
+}
+
+fn tell(taken: u64, number: u64) {
+    io::print_decimal(STDOUT_FILENO, taken);
+    word(b" lines taken, one more: ");
+    io::print_decimal(STDOUT_FILENO, number);
+    word(b"\n");
+}
+
+// Neighbours have different ones.
+fn seq(n: u64) -> u8 {
+    if n % 2 == 0 {
+        return 0x21;
+    }
+    0x22
+}
+
+// A command, as the device hears it: its frame byte by byte.
+fn send(
+    line: Line,
+    books: Books,
+    frame: &mut [u8; 256],
+    last: &mut [u8; 217],
+    seq: u8,
+    code: u8,
+    content: &[u8],
+) -> Given {
+    let mut sent = [0u8; 210];
+    let built = wire::build::build_command(&mut sent, seq, code, content);
+    let n = size_of(built);
+    if 210 < n {
+        return hear(line, books, frame, last, b"");
+    }
+    hear(line, books, frame, last, &sent[0..n])
+}
+
+fn hear(
+    line: Line,
+    books: Books,
+    frame: &mut [u8; 256],
+    last: &mut [u8; 217],
+    bytes: &[u8],
+) -> Given {
+    let mut given = Given {
+        line,
+        books,
+        number: 0,
+        count: 0,
+    };
+    let mut i = 0;
+    while i < bytes.len() {
+        let l = given.line;
+        let b = given.books;
+        given = take(l, b, frame, last, bytes[i]);
+        i += 1;
+    }
+    given
+}
+
+// The bytes given back are not looked at.
+fn take(line: Line, books: Books, frame: &mut [u8; 256], last: &mut [u8; 217], b: u8) -> Given {
+    let mut buf = [0u8; 217];
+    device::take_byte(line, books, frame, last, &mut buf, b)
+}
+
+// Command 42 with n data bytes.
+fn sends(n: usize) {
+    let letters = [b'x'; 210];
+    if 210 < n {
+        return;
+    }
+    let mut sent = [0u8; 210];
+    let built = wire::build::build_command(&mut sent, 0x20, 42, &letters[0..n]);
+    word(b"data of ");
+    io::print_decimal(STDOUT_FILENO, n as u64);
+    word(b" bytes: ");
+    io::print_decimal(STDOUT_FILENO, reply(built));
+    word(b"\n");
+}
+
+fn size_of(built: Built) -> usize {
+    match built {
+        Built::Frame(n) => n,
+        Built::Short => 0,
+        Built::Unsendable => 0,
+    }
+}
+
+fn reply(built: Built) -> u64 {
+    match built {
+        Built::Frame(_) => 0,
+        Built::Short => 7,
+        Built::Unsendable => 8,
+    }
+}
+
+fn word(s: &[u8]) {
+    io::write_all(STDOUT_FILENO, s);
+}
