@@ -3,9 +3,9 @@ use mathlib.Core.Path.{_≡_, refl}
 use mathlib.Core.Bool.{true}
 use mathlib.Core.List.{List, [], _∷_}
 use Rattle.wire.specs.Frame.{Message, commandOf}
 use Rattle.line.specs.Turns.{Carried, switchedOn, session}
-use Rattle.delivery.specs.Delivery.{whole, replaced, Sent, delivery, allArriving}
-use Rattle.delivery.proofs.Delivered.{carries-out-that-very-list}
+use Rattle.line.specs.Delivery.{whole, replaced, Sent, delivery, allArriving}
+use Rattle.line.proofs.Delivered.{carries-out-that-very-list}
 
 abbrev status : Message
 status = commandOf 0x20 74 []

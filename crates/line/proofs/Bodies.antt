@@ -15,7 +15,7 @@ use Rattle.wire.specs.declared.Sort.the-variants.{Mark, Data}
 use Rattle.text.proofs.Laws.{empty}
 use Rattle.wire.proofs.Suits.{both}
 use Rattle.reader.proofs.RoundTrip.{Parts, parts}
-use Rattle.delivery.proofs.Lists.{Free, free-join, free-test, free-every, only-last, cut-same, total-join, OneOff, InFirst, InSecond, off-back, off-length, off-total, off-same, off-parts, off-some}
+use Rattle.line.proofs.Lists.{Free, free-join, free-test, free-every, only-last, cut-same, total-join, OneOff, InFirst, InSecond, off-back, off-length, off-total, off-same, off-parts, off-some}
 
 -- LEN to 05h, their BCC, and all that stands behind 01h
 abbrev pub core : Message → List ℕ

@@ -11,12 +11,12 @@ use Rattle.wire.specs.Frame.{Message, frame, sendable}
 use Rattle.wire.specs.declared.Kind.the-variants.{Command}
 use Rattle.wire.proofs.Suits.{both}
 use Rattle.reader.specs.Reading.{Place, outside}
 use Rattle.line.specs.Turns.{Before, none, was, State, Carried, Turn, Session, switchedOn, repeats, onWhole, session}
-use Rattle.delivery.specs.Delivery.{Arrival, whole, replaced, isWhole, mayArrive, arriving, Sent, all, any, tried, differsFrom, delivery, commands, triesArriving, allArriving, Answered, carryAll, TriesAnswered, AllAnswered}
-use Rattle.delivery.proofs.Lists.{OneOff, off-set}
-use Rattle.delivery.proofs.Hearing.{Between, between-start}
-use Rattle.delivery.proofs.Damaged.{lost}
-use Rattle.delivery.proofs.Sessions.{device, alone, session-append, unheard, whole-try}
+use Rattle.line.specs.Delivery.{Arrival, whole, replaced, isWhole, mayArrive, arriving, Sent, all, any, tried, differsFrom, delivery, commands, triesArriving, allArriving, Answered, carryAll, TriesAnswered, AllAnswered}
+use Rattle.line.proofs.Lists.{OneOff, off-set}
+use Rattle.line.proofs.Hearing.{Between, between-start}
+use Rattle.line.proofs.Damaged.{lost}
+use Rattle.line.proofs.Sessions.{device, alone, session-append, unheard, whole-try}
 
 -- the tests of a damaged try say that it differs from its frame in exactly one place
 differs-once : (sent : List ℕ) (at byte : ℕ) → mayArrive sent (replaced at byte) ≡ true → OneOff sent (arriving sent (replaced at byte))

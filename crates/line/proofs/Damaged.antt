@@ -13,9 +13,9 @@ use Rattle.wire.specs.declared.Kind.the-variants.{Command}
 use Rattle.reader.specs.Reading.{Place, outside, inside, nothing, heard, read, startsAnew, Run, run}
 use Rattle.reader.proofs.Walking.{run-append}
 use Rattle.reader.proofs.RoundTrip.{read-what-was-built}
-use Rattle.delivery.proofs.Lists.{Free, free-join, free-left, free-right, OneOff, InFirst, InSecond, off-parts, off-one, snoc-same, Around, around}
-use Rattle.delivery.proofs.Bodies.{core, check, body, no-01, no-window, no-damaged, no-longer}
-use Rattle.delivery.proofs.Hearing.{NoneHeard, silent-join, silent-start, skipped, place-snoc, none-heard, after-03, Between, behind-last}
+use Rattle.line.proofs.Lists.{Free, free-join, free-left, free-right, OneOff, InFirst, InSecond, off-parts, off-one, snoc-same, Around, around}
+use Rattle.line.proofs.Bodies.{core, check, body, no-01, no-window, no-damaged, no-longer}
+use Rattle.line.proofs.Hearing.{NoneHeard, silent-join, silent-start, skipped, place-snoc, none-heard, after-03, Between, behind-last}
 
 -- nothing heard, and a place between two tries
 abbrev pub Lost : Place → List ℕ → Type 0

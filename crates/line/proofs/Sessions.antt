@@ -10,9 +10,9 @@ use Rattle.wire.specs.Places.{is}
 use Rattle.wire.specs.declared.Kind.the-variants.{Command}
 use Rattle.wire.proofs.Suits.{both}
 use Rattle.reader.specs.Reading.{Place, outside, inside, Event, nothing, brokenFrame, heard, read, startsAnew, run}
 use Rattle.line.specs.Turns.{Before, State, Carried, Turn, Session, onWhole, onEvent, turn, session}
-use Rattle.delivery.proofs.Hearing.{Silent, NoneHeard, after-03}
-use Rattle.delivery.proofs.Damaged.{start, heard-last}
+use Rattle.line.proofs.Hearing.{Silent, NoneHeard, after-03}
+use Rattle.line.proofs.Damaged.{start, heard-last}
 
 every-join : (t : ℕ → Bool) (xs ys : List ℕ) → every t xs ≡ true → every t ys ≡ true → every t (xs ++ ys) ≡ true
 every-join t [] ys e f = f

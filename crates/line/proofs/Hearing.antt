@@ -17,8 +17,8 @@ use Rattle.reader.specs.Reading.{Place, outside, inside, Event, nothing, broken
 use Rattle.reader.proofs.Steps.{reads-broken, reads-whole, read-other}
 use Rattle.reader.proofs.Walking.{run-append}
 use Rattle.reader.proofs.History.{built-is-all-that-is-read}
-use Rattle.delivery.proofs.Lists.{Free, free-left, only-first}
-use Rattle.delivery.proofs.Bodies.{body}
+use Rattle.line.proofs.Lists.{Free, free-left, only-first}
+use Rattle.line.proofs.Bodies.{body}
 
 -- no message is heard
 abbrev pub Silent : Event → Type 0
