@@ -4,6 +4,7 @@ use mathlib.Core.Path.{_≡_}
 use mathlib.Core.Bool.{true, false}
 use lib.ListN.{length, replicate}
 use Rattle.receipt.specs.Receipts.{emptyReceipt}
+use Rattle.receipt.specs.declared.Receipt.{Receipt}
 use Rattle.books.specs.Books.{fiscalOpen}
 use Rattle.books.specs.Groups.{eight, at, sum}
 use Rattle.books.specs.Sound.{sound}
@@ -28,15 +29,22 @@ pub record DayCleared (before after : Books) : Type 0 where
   pub receipt : after .receipt ≡ before .receipt
   pub opened : after .opened ≡ before .opened
 
+-- a receipt as sales and payments make it
+pub record Receipted (r : Receipt) : Type 0 where
+  pub eight-groups : length (r .groups) ≡ 8
+  -- 51: "Answers total and eight groups": the one is the sum of the others
+  pub total : r .total ≡ sum (eight (at (r .groups)))
+  pub not-overpaid : r .paid ≤ r .total
+  -- "fully paid by 53"
+  pub paid-up : r .settled ≡ true → r .paid ≡ r .total
+  -- before the first 53
+  pub unpaid : r .tried ≡ false → r .paid ≡ 0
+  pub unsettled : r .tried ≡ false → r .settled ≡ false
+
 pub record Reached (b : Books) : Type 0 where
   -- every sum is within its digits
   pub fits : sound b ≡ true
-  pub eight-groups : length (b .receipt .groups) ≡ 8
+  pub receipt : Receipted (b .receipt)
   pub eight-sums : length (b .day) ≡ 8
-  -- "Answers total and eight groups": the one is the sum of the others
-  pub total : b .receipt .total ≡ sum (eight (at (b .receipt .groups)))
-  pub not-overpaid : b .receipt .paid ≤ b .receipt .total
-  -- "fully paid by 53"
-  pub paid-up : b .receipt .settled ≡ true → b .receipt .paid ≡ b .receipt .total
   -- nothing stands on a receipt that is not open
   pub blank : fiscalOpen (b .opened) ≡ false → b .receipt ≡ emptyReceipt
