@@ -1,0 +1,174 @@
+-- A payment keeps the books and the history in agreement, whatever its mode.
+use mathlib.Core.Path.{_≡_, refl, sym, ap, _∙_, subst}
+use mathlib.Core.Bool.{Bool, true, false, cond, not, _&&_, _||_}
+use mathlib.Core.List.{List, [], _∷_}
+use Prim.Native.Nat.{ℕ, suc, _+_, _-_, _≤_, _<_, min}
+use native.Mathlib.Omega.{arith}
+use lib.Dec.{leb, eqb}
+use lib.ListN.{length}
+use borrow.Author.Tests.{eq-eqb, ne-eqb, leb-true, leb-false}
+use Rattle.kinds.specs.declared.Command.{Command}
+use Rattle.kinds.specs.declared.Command.the-variants.{OpenText, CloseText, PrintText, Open, Sell, Subtotal, Pay, Close, Cancel, Sums, Closing, Drawer, Status, Rates}
+use Rattle.kinds.specs.declared.Mode.{Mode}
+use Rattle.kinds.specs.declared.Mode.the-variants.{Cash, N, C, D, B}
+use Rattle.kinds.specs.declared.Password.{Password}
+use Rattle.kinds.specs.declared.Payment.{Payment}
+use Rattle.kinds.specs.declared.Sale.{Sale}
+use Rattle.kinds.specs.declared.Service.the-variants.{In, Out}
+use Rattle.kinds.specs.declared.Tender.{Tender}
+use Rattle.receipt.specs.Lines.{productOf, finishedOf}
+use Rattle.receipt.specs.Receipts.{emptyReceipt, groupAfter, withLine, givenOf, paidOf}
+use Rattle.receipt.specs.declared.Receipt.{Receipt}
+use Rattle.books.specs.Books.{freshBooks, withReceipt, withDay, withDrawer, withCounters}
+use Rattle.books.specs.Groups.{eight, at, sum}
+use Rattle.books.specs.Sound.{withReceiptOf}
+use Rattle.books.specs.declared.Books.{Books}
+use Rattle.books.specs.declared.Opened.the-variants as opened
+use Rattle.books.specs.declared.Shown.the-variants as shown
+use Rattle.books.proofs.Eight.{at-eight}
+use Rattle.deeds.specs.Deeds.{done, raisedBy, cleared, carriedOut}
+use Rattle.deeds.specs.declared.Deed.{Deed}
+use Rattle.history.specs.Agrees.{Agrees}
+use Rattle.history.specs.Entries.{Entry, Past, entryOf, did, carriedOn, fresh, historyOf}
+use Rattle.history.specs.History.{receiptSum, receiptTotal, added, takenOff, due, daySum, begins, closesDay, brought, by, byAny, served, inOf, outOf, register, putIn, takenOut}
+use Rattle.history.specs.Reached.{Reached, Receipted}
+use Rattle.history.proofs.Lists.{set-other, same-eight}
+use Rattle.history.proofs.Soundness.{zeros}
+use Rattle.history.proofs.Agreeing.{kept, unchanged, kept-cash, kept-covered, kept-total, less}
+use Rattle.history.proofs.Reaching.{reaching, fresh-reached, reached-stays}
+use Rattle.history.proofs.Steps.{Step, Line, restOf, handed, refused, textOpens, textCloses, prints, opens, sells, subtotals, pays, closes, cancels, sums, clears, reports, looks, puts, takes, status, rates, taken}
+
+-- what was given less the change is what was raised
+net : (full : Bool) (given rest : ℕ) → leb rest given ≡ full → given - cond full (cond full (given - rest) (rest - given)) 0 ≡ min given rest
+net true given rest e = omega (arith, leb-true rest given e)
+net false given rest e = omega (arith, leb-false rest given e)
+
+module _ (es : List Entry) (b : Books) (h : Agrees es b) (t : Tender) where
+  abbrev given : ℕ
+  given = givenOf (restOf b) t
+
+  abbrev raised : ℕ
+  raised = min given (restOf b)
+
+  abbrev paidReceipt : Receipt
+  paidReceipt = paidOf (b .receipt) (restOf b) given .receipt
+
+  abbrev entry : Mode → Entry
+  entry m = entryOf (Pay (record { mode = m; tender = t })) (done b (shown.Tendered (leb (restOf b) given) (paidOf (b .receipt) (restOf b) given .left)))
+
+  abbrev change : ℕ
+  change = cond (leb (restOf b) given) (cond (leb (restOf b) given) (given - restOf b) (restOf b - given)) 0
+
+  -- the history tells the same amount from what was due
+  told : givenOf (due es) t - change ≡ raised
+  told = ap (λ z. givenOf z t - change) (sym (h .rest)) ∙ net (leb (restOf b) given) given (restOf b) refl
+
+  more : {x y : ℕ} → x ≡ y → x + raised ≡ y + (givenOf (due es) t - change)
+  more e = omega (arith, e, told)
+
+  paid : (m : Mode) → Agrees (entry m ∷ es) (raisedBy (withReceipt b (b .opened) paidReceipt) m raised)
+  paid Cash =
+      record {
+        cash = omega (arith, h .cash, h .covered, told);
+        covered = omega (arith, h .covered);
+        groups = λ g lt. unchanged (h .groups g lt);
+        total = kept-total es (h .total);
+        paid = more (h .paid);
+        rest = less (kept-total es (h .total)) (more (h .paid));
+        day = λ g lt. kept (h .day g lt);
+        n = kept (h .n);
+        c = kept (h .c);
+        d = kept (h .d);
+        b = kept (h .b);
+        put = kept (h .put);
+        taken = kept (h .taken);
+        all = kept (h .all);
+        fiscal = kept (h .fiscal);
+        closings = kept (h .closings);
+        memory = kept (h .memory);
+      }
+  paid N =
+      record {
+        cash = kept-cash es (h .cash);
+        covered = kept-covered (h .covered);
+        groups = λ g lt. unchanged (h .groups g lt);
+        total = kept-total es (h .total);
+        paid = more (h .paid);
+        rest = less (kept-total es (h .total)) (more (h .paid));
+        day = λ g lt. kept (h .day g lt);
+        n = more (h .n);
+        c = kept (h .c);
+        d = kept (h .d);
+        b = kept (h .b);
+        put = kept (h .put);
+        taken = kept (h .taken);
+        all = kept (h .all);
+        fiscal = kept (h .fiscal);
+        closings = kept (h .closings);
+        memory = kept (h .memory);
+      }
+  paid C =
+      record {
+        cash = kept-cash es (h .cash);
+        covered = kept-covered (h .covered);
+        groups = λ g lt. unchanged (h .groups g lt);
+        total = kept-total es (h .total);
+        paid = more (h .paid);
+        rest = less (kept-total es (h .total)) (more (h .paid));
+        day = λ g lt. kept (h .day g lt);
+        n = kept (h .n);
+        c = more (h .c);
+        d = kept (h .d);
+        b = kept (h .b);
+        put = kept (h .put);
+        taken = kept (h .taken);
+        all = kept (h .all);
+        fiscal = kept (h .fiscal);
+        closings = kept (h .closings);
+        memory = kept (h .memory);
+      }
+  paid D =
+      record {
+        cash = kept-cash es (h .cash);
+        covered = kept-covered (h .covered);
+        groups = λ g lt. unchanged (h .groups g lt);
+        total = kept-total es (h .total);
+        paid = more (h .paid);
+        rest = less (kept-total es (h .total)) (more (h .paid));
+        day = λ g lt. kept (h .day g lt);
+        n = kept (h .n);
+        c = kept (h .c);
+        d = more (h .d);
+        b = kept (h .b);
+        put = kept (h .put);
+        taken = kept (h .taken);
+        all = kept (h .all);
+        fiscal = kept (h .fiscal);
+        closings = kept (h .closings);
+        memory = kept (h .memory);
+      }
+  paid B =
+      record {
+        cash = kept-cash es (h .cash);
+        covered = kept-covered (h .covered);
+        groups = λ g lt. unchanged (h .groups g lt);
+        total = kept-total es (h .total);
+        paid = more (h .paid);
+        rest = less (kept-total es (h .total)) (more (h .paid));
+        day = λ g lt. kept (h .day g lt);
+        n = kept (h .n);
+        c = kept (h .c);
+        d = kept (h .d);
+        b = more (h .b);
+        put = kept (h .put);
+        taken = kept (h .taken);
+        all = kept (h .all);
+        fiscal = kept (h .fiscal);
+        closings = kept (h .closings);
+        memory = kept (h .memory);
+      }
+
+pub payment-made : (es : List Entry) (b : Books) → Agrees es b → (p : Payment)
+    → Agrees (entryOf (Pay p) (done b (shown.Tendered (leb (restOf b) (handed b p)) (paidOf (b .receipt) (restOf b) (handed b p) .left))) ∷ es)
+    (raisedBy (withReceipt b (b .opened) (paidOf (b .receipt) (restOf b) (handed b p) .receipt)) (p .mode) (min (handed b p) (restOf b)))
+payment-made es b h p = paid es b h (p .tender) (p .mode)
