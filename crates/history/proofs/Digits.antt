@@ -1,12 +1,11 @@
 -- In every state that a fresh device can reach, every field shown fits its digits.
-use mathlib.Core.Path.{_≡_, refl}
+use mathlib.Core.Path.{_≡_}
 use mathlib.Core.Bool.{Bool, true, false, cond}
 use mathlib.Core.List.{List}
-use Prim.Native.Nat.{ℕ, _+_, _-_, _^_, _≤_, _<_}
+use Prim.Native.Nat.{ℕ, _-_, _^_, _<_}
 use native.Mathlib.Omega.{arith}
 use lib.Dec.{leb}
 use borrow.Author.Tests.{ltb-true}
-use Rattle.amounts.specs.Amounts.{netOf}
 use Rattle.kinds.specs.declared.Command.{Command}
 use Rattle.kinds.specs.declared.Tender.{Tender}
 use Rattle.kinds.specs.declared.Tender.the-variants.{Rest, Amount}

@@ -1,10 +1,9 @@
 -- What holds of the books in every state that a fresh device can reach.
-use mathlib.Core.Path.{_≡_, refl, sym, ap, _∙_, subst}
+use mathlib.Core.Path.{_≡_, refl, sym, _∙_}
 use mathlib.Core.Bool.{Bool, true, false, cond, false≢true}
 use mathlib.Core.List.{List, [], _∷_}
-use Prim.Native.Nat.{ℕ, _+_, _-_, _≤_, _<_, min}
+use Prim.Native.Nat.{ℕ, _+_, _-_, _≤_, min}
 use native.Mathlib.Omega.{arith}
-use lib.Dec.{leb}
 use lib.ListN.{length, set, length-set}
 use borrow.Author.Tests.{leb-true}
 use Rattle.kinds.specs.declared.Command.{Command}
@@ -13,8 +12,7 @@ use Rattle.kinds.specs.declared.Mode.the-variants.{Cash, N, C, D, B}
 use Rattle.kinds.specs.declared.Payment.{Payment}
 use Rattle.kinds.specs.declared.Sale.{Sale}
 use Rattle.receipt.specs.Lines.{productOf, finishedOf}
-use Rattle.receipt.specs.Receipts.{emptyReceipt, groupAfter, totalAfter, withLine, paidOf}
-use Rattle.receipt.specs.declared.Receipt.{Receipt}
+use Rattle.receipt.specs.Receipts.{emptyReceipt, groupAfter, withLine, paidOf}
 use Rattle.books.specs.Books.{freshBooks, fiscalOpen, textOpen, anyOpen, withReceipt}
 use Rattle.books.specs.Groups.{eight, at, sum}
 use Rattle.books.specs.Sound.{sound}
@@ -53,7 +51,7 @@ module _ (b : Books) (h : Receipted (b .receipt)) where
       record {
         eight-groups = length-set (r .groups) (s .group) (groupAfter r s) ∙ h .eight-groups;
         total = line-total (s .minus) (sum (eight (at (r .groups)))) (sum (eight (at (set (r .groups) (s .group) (groupAfter r s))))) (at (r .groups) (s .group)) (productOf s) (finishedOf (productOf s) (s .adjust)) (r .total) (l .plain) (h .total)
-        (sum-eight-set (r .groups) (s .group) (groupAfter r s) (h .eight-groups) (l .group));
+            (sum-eight-set (r .groups) (s .group) (groupAfter r s) (h .eight-groups) (l .group));
         not-overpaid = omega (arith, h .unpaid (l .untried));
         paid-up = λ e. absurd (false≢true (sym (h .unsettled (l .untried)) ∙ e));
         unpaid = h .unpaid;

@@ -1,9 +1,9 @@
 -- Each command refused, or done in the one way that its kind has.
-use mathlib.Core.Path.{_≡_, refl, sym, ap, _∙_}
+use mathlib.Core.Path.{_≡_, refl, sym}
 use mathlib.Core.Bool.{Bool, true, false, cond, not, _&&_, _||_, false≢true}
 use Prim.Native.Nat.{ℕ, suc, _+_, _-_, _≤_, _<_, min}
 use native.Mathlib.Omega.{arith}
-use lib.Dec.{leb, ltb, eqb}
+use lib.Dec.{leb, ltb}
 use borrow.Author.Tests.{ltb-true, ltb-false, leb-true, leb-false, not-false}
 use Rattle.wire.proofs.Suits.{both}
 use Rattle.kinds.specs.declared.Command.{Command}
@@ -16,7 +16,6 @@ use Rattle.kinds.specs.declared.Service.the-variants.{Report, In, Out}
 use Rattle.receipt.specs.Lines.{productOf, tooMuchOff, finishedOf, adjustFits, fits}
 use Rattle.receipt.specs.Receipts.{emptyReceipt, notPermitted, overflows, groupAfter, totalAfter, withLine, soldOf, givenOf, isCash, notPaidOf, paidOf, paymentOf, cancelOf}
 use Rattle.receipt.specs.declared.Paid.{Paid}
-use Rattle.receipt.specs.declared.Receipt.{Receipt}
 use Rattle.receipt.specs.declared.Sold.{Sold}
 use Rattle.books.specs.Books.{fiscalOpen, textOpen, anyOpen, withReceipt, withDay, withDrawer, withCounters}
 use Rattle.books.specs.Groups.{eight, at}
@@ -25,7 +24,7 @@ use Rattle.books.specs.Sound.{inTwelve, withReceiptOf, sound}
 use Rattle.books.specs.declared.Books.{Books}
 use Rattle.books.specs.declared.Opened.the-variants as opened
 use Rattle.books.specs.declared.Shown.the-variants as shown
-use Rattle.deeds.specs.Deeds.{refusedWith, done, judged, kept, full, isRight, soldAs, registerOf, raisedBy, paidAs, cancelledAs, cleared, deedOf, carriedOut}
+use Rattle.deeds.specs.Deeds.{refusedWith, done, judged, full, isRight, soldAs, registerOf, raisedBy, paidAs, cancelledAs, cleared, deedOf, carriedOut}
 use Rattle.deeds.specs.declared.Deed.{Deed}
 
 -- the rest of the open receipt, and what a payment gives

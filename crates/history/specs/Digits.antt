@@ -1,7 +1,6 @@
 -- Every field an answer shows, within the digits that document 01 gives it.
 use Prim.Native.Nat.{ℕ, _^_, _<_}
-use mathlib.Core.Path.{_≡_}
-use mathlib.Core.Bool.{Bool, true, false}
+use mathlib.Core.Bool.{Bool, true}
 use lib.Dec.{ltb}
 use Rattle.amounts.specs.Amounts.{taxOf}
 use Rattle.kinds.specs.declared.Command.{Command}

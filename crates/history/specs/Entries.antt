@@ -1,6 +1,6 @@
 -- The commands a device has carried out, each with its reply: what the figures of the history are told from.
 use Prim.Native.Nat.{ℕ, zero, suc}
-use mathlib.Core.Bool.{Bool, true, false, cond, _&&_}
+use mathlib.Core.Bool.{Bool, true, false, _&&_}
 use mathlib.Core.List.{List, [], _∷_}
 use lib.Dec.{eqb}
 use Rattle.kinds.specs.declared.Command.{Command}
@@ -8,7 +8,6 @@ use Rattle.kinds.specs.declared.Command.the-variants.{OpenText, CloseText, Prin
 use Rattle.kinds.specs.declared.Payment.{Payment}
 use Rattle.kinds.specs.declared.Sale.{Sale}
 use Rattle.kinds.specs.declared.Service.{Service}
-use Rattle.kinds.specs.declared.Service.the-variants.{Report, In, Out}
 use Rattle.books.specs.Books.{freshBooks}
 use Rattle.books.specs.declared.Books.{Books}
 use Rattle.books.specs.declared.Shown.{Shown}

@@ -6,8 +6,6 @@ use mathlib.Core.List.{List, [], _∷_}
 use lib.Dec.{eqb}
 use Rattle.kinds.specs.declared.Mode.{Mode}
 use Rattle.kinds.specs.declared.Mode.the-variants.{Cash, N, C, D, B}
-use Rattle.kinds.specs.declared.Payment.{Payment}
-use Rattle.kinds.specs.declared.Sale.{Sale}
 use Rattle.kinds.specs.declared.Service.{Service}
 use Rattle.kinds.specs.declared.Service.the-variants.{Report, In, Out}
 use Rattle.receipt.specs.Lines.{productOf, finishedOf}

@@ -1,5 +1,5 @@
 -- What a refusal leaves, what a closing clears, and what holds of the books in every state that a fresh device can reach.
-use Prim.Native.Nat.{ℕ, _≤_}
+use Prim.Native.Nat.{_≤_}
 use mathlib.Core.Path.{_≡_}
 use mathlib.Core.Bool.{true, false}
 use lib.ListN.{length, replicate}

@@ -25,7 +25,13 @@ fn main() {
     }
 }
 
-fn hear(line: Line, books: Books, frame: &mut [u8; 256], last: &mut [u8; 217], bytes: &[u8]) -> Given {
+fn hear(
+    line: Line,
+    books: Books,
+    frame: &mut [u8; 256],
+    last: &mut [u8; 217],
+    bytes: &[u8],
+) -> Given {
     let mut buf = [0u8; 217];
     let mut given = Given {
         line,
