@@ -59,6 +59,7 @@ module _ (es : List Entry) (b : Books) (h : Agrees es b) where
       record {
         cash = kept-cash es (h .cash);
         covered = kept-covered (h .covered);
+        opened = refl;
         groups = λ g lt. unchanged (h .groups g lt);
         total = kept-total es (h .total);
         paid = kept (h .paid);
@@ -82,6 +83,7 @@ module _ (es : List Entry) (b : Books) (h : Agrees es b) where
       record {
         cash = kept-cash es (h .cash);
         covered = kept-covered (h .covered);
+        opened = refl;
         groups = λ g lt. unchanged (h .groups g lt);
         total = kept-total es (h .total);
         paid = kept (h .paid);
@@ -107,6 +109,7 @@ module _ (es : List Entry) (b : Books) (h : Agrees es b) where
       record {
         cash = kept-cash es (h .cash);
         covered = kept-covered (h .covered);
+        opened = refl;
         groups = λ g lt. zeros g;
         total = refl;
         paid = refl;
@@ -130,6 +133,7 @@ module _ (es : List Entry) (b : Books) (h : Agrees es b) where
       record {
         cash = kept-cash es (h .cash);
         covered = kept-covered (h .covered);
+        opened = refl;
         groups = λ g lt. zeros g;
         total = refl;
         paid = refl;
@@ -153,6 +157,7 @@ module _ (es : List Entry) (b : Books) (h : Agrees es b) where
       record {
         cash = kept-cash es (h .cash);
         covered = kept-covered (h .covered);
+        opened = refl;
         groups = λ g lt. zeros g;
         total = refl;
         paid = refl;
@@ -176,6 +181,7 @@ module _ (es : List Entry) (b : Books) (h : Agrees es b) where
       record {
         cash = kept-cash es (h .cash);
         covered = kept-covered (h .covered);
+        opened = h .opened;
         groups = λ g lt. unchanged (h .groups g lt);
         total = kept-total es (h .total);
         paid = kept (h .paid);
@@ -201,6 +207,7 @@ module _ (es : List Entry) (b : Books) (h : Agrees es b) where
       record {
         cash = omega (arith, h .cash, h .covered);
         covered = omega (arith, h .covered);
+        opened = h .opened;
         groups = λ g lt. unchanged (h .groups g lt);
         total = kept-total es (h .total);
         paid = kept (h .paid);
@@ -225,6 +232,7 @@ module _ (es : List Entry) (b : Books) (h : Agrees es b) where
       record {
         cash = omega (arith, h .cash, h .covered);
         covered = omega (arith, h .cash, h .covered);
+        opened = h .opened;
         groups = λ g lt. unchanged (h .groups g lt);
         total = kept-total es (h .total);
         paid = kept (h .paid);
@@ -277,6 +285,7 @@ module _ (es : List Entry) (b : Books) (h : Agrees es b) (s : Sale) where
       record {
         cash = kept-cash es (h .cash);
         covered = kept-covered (h .covered);
+        opened = h .opened;
         groups = groups;
         total = total;
         paid = kept (h .paid);

@@ -1,9 +1,13 @@
 -- Laws of one command.
 use mathlib.Core.Path.{_≡_, refl}
 use mathlib.Core.Bool.{true}
+use Prim.Native.Nat.{_≤_}
 use native.Mathlib.Omega.{arith}
 use Rattle.kinds.specs.declared.Command.{Command}
-use Rattle.kinds.specs.declared.Command.the-variants.{Closing}
+use Rattle.kinds.specs.declared.Command.the-variants.{Sell, Closing}
+use Rattle.kinds.specs.declared.Sale.{Sale}
+use Rattle.receipt.specs.Lines.{productOf}
+use Rattle.books.specs.Groups.{at}
 use Rattle.books.specs.declared.Books.{Books}
 use Rattle.books.specs.declared.Shown.the-variants as shown
 use Rattle.deeds.specs.Deeds.{carriedOut}
@@ -43,3 +47,11 @@ clearing (clears o r) z =
 -- 69 with 0
 pub a-closing-clears : (b : Books) → carriedOut b (Closing true) .number ≡ 0 → DayCleared b (carriedOut b (Closing true) .books)
 a-closing-clears b z = clearing (taken b (Closing true)) z
+
+lowering : {b : Books} {s : Sale} {d : Deed} → Step b (Sell s) d → d .number ≡ 0 → s .minus ≡ true → productOf s ≤ at (b .receipt .groups) (s .group)
+lowering (refused m h) z = absurd (omega (arith, z))
+lowering (sells s l) z = l .plain
+
+-- 49 with `-`: no group falls below zero
+pub a-line-off-is-covered : (b : Books) (s : Sale) → carriedOut b (Sell s) .number ≡ 0 → s .minus ≡ true → productOf s ≤ at (b .receipt .groups) (s .group)
+a-line-off-is-covered b s z = lowering (taken b (Sell s)) z

@@ -57,6 +57,7 @@ module _ (es : List Entry) (b : Books) (h : Agrees es b) (t : Tender) where
       record {
         cash = omega (arith, h .cash, h .covered, told);
         covered = omega (arith, h .covered);
+        opened = h .opened;
         groups = λ g lt. unchanged (h .groups g lt);
         total = kept-total es (h .total);
         paid = more (h .paid);
@@ -77,6 +78,7 @@ module _ (es : List Entry) (b : Books) (h : Agrees es b) (t : Tender) where
       record {
         cash = kept-cash es (h .cash);
         covered = kept-covered (h .covered);
+        opened = h .opened;
         groups = λ g lt. unchanged (h .groups g lt);
         total = kept-total es (h .total);
         paid = more (h .paid);
@@ -97,6 +99,7 @@ module _ (es : List Entry) (b : Books) (h : Agrees es b) (t : Tender) where
       record {
         cash = kept-cash es (h .cash);
         covered = kept-covered (h .covered);
+        opened = h .opened;
         groups = λ g lt. unchanged (h .groups g lt);
         total = kept-total es (h .total);
         paid = more (h .paid);
@@ -117,6 +120,7 @@ module _ (es : List Entry) (b : Books) (h : Agrees es b) (t : Tender) where
       record {
         cash = kept-cash es (h .cash);
         covered = kept-covered (h .covered);
+        opened = h .opened;
         groups = λ g lt. unchanged (h .groups g lt);
         total = kept-total es (h .total);
         paid = more (h .paid);
@@ -137,6 +141,7 @@ module _ (es : List Entry) (b : Books) (h : Agrees es b) (t : Tender) where
       record {
         cash = kept-cash es (h .cash);
         covered = kept-covered (h .covered);
+        opened = h .opened;
         groups = λ g lt. unchanged (h .groups g lt);
         total = kept-total es (h .total);
         paid = more (h .paid);

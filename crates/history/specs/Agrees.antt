@@ -6,12 +6,13 @@ use Rattle.kinds.specs.declared.Mode.the-variants.{N, C, D, B}
 use Rattle.books.specs.Groups.{at}
 use Rattle.books.specs.declared.Books.{Books}
 use Rattle.history.specs.Entries.{Entry}
-use Rattle.history.specs.History.{receiptSum, receiptTotal, paidSum, due, putIn, takenOut, serviceSum, inOf, outOf, register, allOpened, fiscalOpened, daySum, closings, memorySum}
+use Rattle.history.specs.History.{openReceipt, receiptSum, receiptTotal, paidSum, due, putIn, takenOut, serviceSum, inOf, outOf, register, allOpened, fiscalOpened, daySum, closings, memorySum}
 
 pub record Agrees (es : List Entry) (books : Books) : Type 0 where
   -- "Cash equals all that was put in less all that was taken out, over the whole history."
   pub cash : books .drawer .cash ≡ putIn es - takenOut es
   pub covered : takenOut es ≤ putIn es
+  pub opened : books .opened ≡ openReceipt es
   -- the open receipt, its eight groups from 0
   pub groups : (g : ℕ) → g < 8 → at (books .receipt .groups) g ≡ receiptSum g es
   pub total : books .receipt .total ≡ receiptTotal es

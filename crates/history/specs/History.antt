@@ -1,5 +1,5 @@
 -- Demand 2: each figure told from the whole history, newest entry first, and from nothing that the device remembers.
--- A refusal counts for nothing: `did`, `raised`, `added` and the others look at commands done alone.
+-- A refusal counts for nothing: `did`, `added`, `brought` and `served` look at commands done alone.
 use Prim.Native.Nat.{ℕ, _+_, _-_}
 use mathlib.Core.Bool.{Bool, true, false, cond, not, _&&_, _||_}
 use mathlib.Core.List.{List, [], _∷_}
@@ -11,6 +11,8 @@ use Rattle.kinds.specs.declared.Service.the-variants.{Report, In, Out}
 use Rattle.receipt.specs.Lines.{productOf, finishedOf}
 use Rattle.receipt.specs.Receipts.{givenOf}
 use Rattle.books.specs.Groups.{eight, sum}
+use Rattle.books.specs.declared.Opened.{Opened}
+use Rattle.books.specs.declared.Opened.the-variants.{Nothing, Fiscal, Text}
 use Rattle.books.specs.declared.Shown.{Shown}
 use Rattle.books.specs.declared.Shown.the-variants as shown
 use Rattle.history.specs.Entries.{Entry, isDone, did, ofSale, ofPayment, ofClosing, ofService}
@@ -19,11 +21,16 @@ use Rattle.history.specs.Entries.{Entry, isDone, did, ofSale, ofPayment,
 abbrev pub closesDay : Entry → Bool
 closesDay e = isDone (e .number) && ofClosing false (λ clears. clears) (e .command)
 
--- once for each
 abbrev pub once : Bool → ℕ
-once yes? = cond yes? 1 0
+once happened = cond happened 1 0
 
--- the open receipt begins anew at 48, and 56 and 60 leave nothing of it open
+-- which receipt is open: 48 and 38 open one, 56, 60 and 39 leave none
+abbrev pub openReceipt : List Entry → Opened
+openReceipt [] = Nothing
+openReceipt (e ∷ es) =
+    cond (did 48 e) Fiscal (cond (did 38 e) Text (cond (did 39 e || did 56 e || did 60 e) Nothing (openReceipt es)))
+
+-- the fiscal receipt begins anew at 48, and 56 and 60 leave nothing of it
 abbrev pub begins : Entry → Bool
 begins e = did 48 e || did 56 e || did 60 e
 
@@ -59,6 +66,7 @@ changeOf shown.InDrawer = 0
 changeOf shown.Status = 0
 changeOf shown.Rates = 0
 
+-- the modes told apart
 abbrev pub place : Mode → ℕ
 place Cash = 0
 place N = 1
@@ -66,18 +74,18 @@ place C = 2
 place D = 3
 place B = 4
 
--- what a payment, by a mode that passes the test, brought: what was given ("none means the rest"), "change left out"
-abbrev pub brought : (Mode → Bool) → ℕ → Entry → ℕ
-brought test rest e =
-    cond (isDone (e .number))
-    (ofPayment 0 (λ p. cond (test (p .mode)) (givenOf rest (p .tender) - changeOf (e .shown)) 0) (e .command))
-    0
-
 abbrev pub by : Mode → Mode → Bool
 by m n = eqb (place m) (place n)
 
 abbrev pub byAny : Mode → Bool
 byAny m = true
+
+-- what a payment by such a mode brought: what was given ("none means the rest"), "change left out"
+abbrev pub brought : (Mode → Bool) → ℕ → Entry → ℕ
+brought test rest e =
+    cond (isDone (e .number))
+    (ofPayment 0 (λ p. cond (test (p .mode)) (givenOf rest (p .tender) - changeOf (e .shown)) 0) (e .command))
+    0
 
 -- what was paid on the open receipt, and what is still due
 abbrev pub paidSum : List Entry → ℕ
