@@ -20,12 +20,12 @@ use Rattle.books.specs.declared.Shown.the-variants as shown
 use Rattle.deeds.specs.Deeds.{done, raisedBy}
 use Rattle.history.specs.Agrees.{Agrees}
 use Rattle.history.specs.Entries.{Entry, entryOf}
-use Rattle.history.specs.History.{due}
+use Rattle.history.specs.History.{due, changeOf}
 use Rattle.history.proofs.Agreeing.{kept, unchanged, kept-cash, kept-covered, kept-total, less}
 use Rattle.history.proofs.Steps.{restOf, handed, taken}
 
 -- what was given less the change is what was raised
-net : (full : Bool) (given rest : ℕ) → leb rest given ≡ full → given - cond full (cond full (given - rest) (rest - given)) 0 ≡ min given rest
+net : (full : Bool) (given rest : ℕ) → leb rest given ≡ full → given - changeOf (shown.Tendered full (cond full (given - rest) (rest - given))) ≡ min given rest
 net true given rest e = omega (arith, leb-true rest given e)
 net false given rest e = omega (arith, leb-false rest given e)
 
@@ -43,7 +43,7 @@ module _ (es : List Entry) (b : Books) (h : Agrees es b) (t : Tender) where
   entry m = entryOf (Pay (record { mode = m; tender = t })) (done b (shown.Tendered (leb (restOf b) given) (paidOf (b .receipt) (restOf b) given .left)))
 
   abbrev change : ℕ
-  change = cond (leb (restOf b) given) (cond (leb (restOf b) given) (given - restOf b) (restOf b - given)) 0
+  change = changeOf (shown.Tendered (leb (restOf b) given) (paidOf (b .receipt) (restOf b) given .left))
 
   -- the history tells the same amount from what was due
   told : givenOf (due es) t - change ≡ raised
