@@ -19,8 +19,9 @@ use Rattle.books.specs.Sound.{sound}
 use Rattle.books.specs.declared.Books.{Books}
 use Rattle.books.specs.declared.Opened.{Opened}
 use Rattle.books.specs.declared.Opened.the-variants.{Nothing, Fiscal, Text}
-use Rattle.deeds.specs.Deeds.{raisedBy, carriedOut}
+use Rattle.deeds.specs.Deeds.{raisedBy, deedOf, carriedOut}
 use Rattle.deeds.specs.declared.Deed.{Deed}
+use Rattle.deeds.proofs.Judging.{kept-done}
 use Rattle.history.specs.Entries.{Past, carriedOn, fresh, historyOf, entryOf}
 use Rattle.history.specs.Reached.{Reached, Receipted}
 use Rattle.history.proofs.Lists.{sum-eight-set}
@@ -140,3 +141,7 @@ reached-on p (c ∷ cs) h =
 
 pub every-history-reached : (cs : List Command) → Reached (historyOf cs .books)
 every-history-reached cs = reached-on fresh cs fresh-reached
+
+-- so a device that was fresh never refuses for books that are not sound
+pub every-command-judged : (cs : List Command) (c : Command) → carriedOut (historyOf cs .books) c ≡ deedOf (historyOf cs .books) c
+every-command-judged cs c = sym (kept-done (historyOf cs .books) (deedOf (historyOf cs .books) c) (every-history-reached cs .fits))

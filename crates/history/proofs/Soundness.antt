@@ -275,6 +275,5 @@ fresh-is-sound = refl
 pub step-sound : (b : Books) → sound b ≡ true → {c : Command} {d : Deed} → Step b c d → sound (d .books) ≡ true
 step-sound b e {c} {d} st = whole (d .books) (staying b (parts b e) st)
 
--- so books are refused for not being sound by no device that was fresh
 pub sound-stays : (b : Books) (c : Command) → sound b ≡ true → sound (carriedOut b c .books) ≡ true
 sound-stays b c e = step-sound b e (taken b c)
