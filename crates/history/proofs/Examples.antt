@@ -1,0 +1,61 @@
+-- A day of the paper's own figures, told from its history.
+use mathlib.Core.Path.{_≡_, refl}
+use mathlib.Core.Bool.{true, false}
+use mathlib.Core.List.{List, [], _∷_, _++_}
+use Rattle.kinds.specs.declared.Adjust.the-variants.{Nothing, PercentLess}
+use Rattle.kinds.specs.declared.Command.{Command}
+use Rattle.kinds.specs.declared.Command.the-variants.{Open, Sell, Pay, Close, Cancel, Closing, Drawer}
+use Rattle.kinds.specs.declared.Mode.the-variants.{Cash}
+use Rattle.kinds.specs.declared.Service.the-variants.{In, Out}
+use Rattle.kinds.specs.declared.Tender.the-variants.{Amount}
+use Rattle.history.specs.Entries.{Entry, historyOf}
+use Rattle.history.specs.History.{due, putIn, takenOut, daySum, allOpened, closings, memorySum}
+
+abbrev openIt : Command
+openIt = Open 1 (record { digits = 4; value = 0 }) 1
+
+-- document 01, example 5: "A receipt with that 0.67 and 12.00, both in B"
+abbrev sold : List Command
+sold =
+    openIt
+    ∷ Sell (record { group = 1; minus = false; price = 199; quantity = 375; adjust = PercentLess 1000 })
+    ∷ Sell (record { group = 1; minus = false; price = 1200; quantity = 1000; adjust = Nothing })
+    ∷ []
+
+-- "53 `Tab P20`: `R0000000733`. After 56 .. 70 gives cash 12.67."
+abbrev paid : List Command
+paid = sold ++ Pay (record { mode = Cash; tender = Amount 2000 }) ∷ Close ∷ []
+
+-- 5.00 put in and 3.00 taken out, a receipt cancelled, and the day closed
+abbrev day : List Command
+day = paid ++ Drawer (In 500) ∷ Drawer (Out 300) ∷ openIt ∷ Cancel ∷ Closing true ∷ []
+
+abbrev told : List Command → List Entry
+told cs = historyOf cs .entries
+
+pub still-due : due (told sold) ≡ 1267
+still-due = refl
+
+pub change-left-out : putIn (told paid) ≡ 1267
+change-left-out = refl
+
+pub day-of-B : daySum 1 (told paid) ≡ 1267
+day-of-B = refl
+
+pub put-in : putIn (told day) ≡ 1767
+put-in = refl
+
+pub taken-out : takenOut (told day) ≡ 300
+taken-out = refl
+
+pub cash : historyOf day .books .drawer .cash ≡ 1467
+cash = refl
+
+pub cleared : allOpened (told day) ≡ 0
+cleared = refl
+
+pub one-closing : closings (told day) ≡ 1
+one-closing = refl
+
+pub memory : memorySum (told day) ≡ 1267
+memory = refl

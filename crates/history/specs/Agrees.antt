@@ -1,0 +1,33 @@
+-- The books say what the history comes to.
+use Prim.Native.Nat.{ℕ, _-_, _≤_, _<_}
+use mathlib.Core.Path.{_≡_}
+use mathlib.Core.List.{List}
+use Rattle.kinds.specs.declared.Mode.the-variants.{N, C, D, B}
+use Rattle.books.specs.Groups.{at}
+use Rattle.books.specs.declared.Books.{Books}
+use Rattle.history.specs.Entries.{Entry}
+use Rattle.history.specs.History.{openReceipt, receiptSum, receiptTotal, paidSum, due, putIn, takenOut, serviceSum, inOf, outOf, register, allOpened, fiscalOpened, daySum, closings, memorySum}
+
+pub record Agrees (es : List Entry) (books : Books) : Type 0 where
+  -- "Cash equals all that was put in less all that was taken out, over the whole history."
+  pub cash : books .drawer .cash ≡ putIn es - takenOut es
+  pub covered : takenOut es ≤ putIn es
+  pub opened : books .opened ≡ openReceipt es
+  -- the open receipt, its eight groups from 0
+  pub groups : (g : ℕ) → g < 8 → at (books .receipt .groups) g ≡ receiptSum g es
+  pub total : books .receipt .total ≡ receiptTotal es
+  pub paid : books .receipt .paid ≡ paidSum es
+  pub rest : books .receipt .total - books .receipt .paid ≡ due es
+  -- since the last closing
+  pub day : (g : ℕ) → g < 8 → at (books .day) g ≡ daySum g es
+  pub n : books .registers .n ≡ register N es
+  pub c : books .registers .c ≡ register C es
+  pub d : books .registers .d ≡ register D es
+  pub b : books .registers .b ≡ register B es
+  pub put : books .drawer .put ≡ serviceSum inOf es
+  pub taken : books .drawer .taken ≡ serviceSum outOf es
+  pub all : books .counters .all ≡ allOpened es
+  pub fiscal : books .counters .fiscal ≡ fiscalOpened es
+  -- over all closings
+  pub closings : books .memory .closings ≡ closings es
+  pub memory : books .memory .total ≡ memorySum es

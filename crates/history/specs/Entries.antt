@@ -1,0 +1,133 @@
+-- The commands a device has carried out, each with its reply: what the figures of the history are told from.
+use Prim.Native.Nat.{ℕ, zero, suc}
+use mathlib.Core.Bool.{Bool, true, false, _&&_}
+use mathlib.Core.List.{List, [], _∷_}
+use lib.Dec.{eqb}
+use Rattle.kinds.specs.declared.Command.{Command}
+use Rattle.kinds.specs.declared.Command.the-variants.{OpenText, CloseText, PrintText, Open, Sell, Subtotal, Pay, Close, Cancel, Sums, Closing, Drawer, Status, Rates}
+use Rattle.kinds.specs.declared.Payment.{Payment}
+use Rattle.kinds.specs.declared.Sale.{Sale}
+use Rattle.kinds.specs.declared.Service.{Service}
+use Rattle.books.specs.Books.{freshBooks}
+use Rattle.books.specs.declared.Books.{Books}
+use Rattle.books.specs.declared.Shown.{Shown}
+use Rattle.deeds.specs.Deeds.{carriedOut}
+use Rattle.deeds.specs.declared.Deed.{Deed}
+
+-- a command carried out, its reply number, and what its answer shows
+pub record Entry : Type 0 where
+  pub command : Command
+  pub number : ℕ
+  pub shown : Shown
+
+abbrev pub entryOf : Command → Deed → Entry
+entryOf c d = record { command = c; number = d .number; shown = d .shown }
+
+-- all that was carried out, newest first, and the books it led to
+pub record Past : Type 0 where
+  pub entries : List Entry
+  pub books : Books
+
+-- commands carried out one after the other, in the order of their arrival
+abbrev pub carriedOn : Past → List Command → Past
+carriedOn p [] = p
+carriedOn p (c ∷ cs) =
+    carriedOn (record { entries = entryOf c (carriedOut (p .books) c) ∷ p .entries; books = carriedOut (p .books) c .books }) cs
+
+abbrev pub fresh : Past
+fresh = record { entries = []; books = freshBooks }
+
+abbrev pub historyOf : List Command → Past
+historyOf cs = carriedOn fresh cs
+
+-- "0 done"
+abbrev pub isDone : ℕ → Bool
+isDone zero = true
+isDone (suc n) = false
+
+-- the commands by their numbers on the paper
+abbrev pub code : Command → ℕ
+code OpenText = 38
+code CloseText = 39
+code PrintText = 42
+code (Open op password till) = 48
+code (Sell s) = 49
+code (Subtotal print show) = 51
+code (Pay p) = 53
+code Close = 56
+code Cancel = 60
+code (Sums taxes) = 65
+code (Closing clears) = 69
+code (Drawer s) = 70
+code Status = 74
+code Rates = 97
+
+-- the command with this number, and done
+abbrev pub did : ℕ → Entry → Bool
+did n e = isDone (e .number) && eqb (code (e .command)) n
+
+-- what a line, a payment, a closing and 70 hold; of every other command `none`
+module _ {A : Type 0} (none : A) where
+  abbrev pub ofSale : (Sale → A) → Command → A
+  ofSale f OpenText = none
+  ofSale f CloseText = none
+  ofSale f PrintText = none
+  ofSale f (Open op password till) = none
+  ofSale f (Sell s) = f s
+  ofSale f (Subtotal print show) = none
+  ofSale f (Pay p) = none
+  ofSale f Close = none
+  ofSale f Cancel = none
+  ofSale f (Sums taxes) = none
+  ofSale f (Closing clears) = none
+  ofSale f (Drawer s) = none
+  ofSale f Status = none
+  ofSale f Rates = none
+
+  abbrev pub ofPayment : (Payment → A) → Command → A
+  ofPayment f OpenText = none
+  ofPayment f CloseText = none
+  ofPayment f PrintText = none
+  ofPayment f (Open op password till) = none
+  ofPayment f (Sell s) = none
+  ofPayment f (Subtotal print show) = none
+  ofPayment f (Pay p) = f p
+  ofPayment f Close = none
+  ofPayment f Cancel = none
+  ofPayment f (Sums taxes) = none
+  ofPayment f (Closing clears) = none
+  ofPayment f (Drawer s) = none
+  ofPayment f Status = none
+  ofPayment f Rates = none
+
+  abbrev pub ofClosing : (Bool → A) → Command → A
+  ofClosing f OpenText = none
+  ofClosing f CloseText = none
+  ofClosing f PrintText = none
+  ofClosing f (Open op password till) = none
+  ofClosing f (Sell s) = none
+  ofClosing f (Subtotal print show) = none
+  ofClosing f (Pay p) = none
+  ofClosing f Close = none
+  ofClosing f Cancel = none
+  ofClosing f (Sums taxes) = none
+  ofClosing f (Closing clears) = f clears
+  ofClosing f (Drawer s) = none
+  ofClosing f Status = none
+  ofClosing f Rates = none
+
+  abbrev pub ofService : (Service → A) → Command → A
+  ofService f OpenText = none
+  ofService f CloseText = none
+  ofService f PrintText = none
+  ofService f (Open op password till) = none
+  ofService f (Sell s) = none
+  ofService f (Subtotal print show) = none
+  ofService f (Pay p) = none
+  ofService f Close = none
+  ofService f Cancel = none
+  ofService f (Sums taxes) = none
+  ofService f (Closing clears) = none
+  ofService f (Drawer s) = f s
+  ofService f Status = none
+  ofService f Rates = none

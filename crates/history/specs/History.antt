@@ -1,0 +1,150 @@
+-- Demand 2: each figure told from the whole history, newest entry first, and from nothing that the device remembers.
+-- A refusal counts for nothing: `did`, `added`, `brought` and `served` look at commands done alone.
+use Prim.Native.Nat.{ℕ, _+_, _-_}
+use mathlib.Core.Bool.{Bool, true, false, cond, not, _&&_, _||_}
+use mathlib.Core.List.{List, [], _∷_}
+use lib.Dec.{eqb}
+use Rattle.kinds.specs.declared.Mode.{Mode}
+use Rattle.kinds.specs.declared.Mode.the-variants.{Cash, N, C, D, B}
+use Rattle.kinds.specs.declared.Service.{Service}
+use Rattle.kinds.specs.declared.Service.the-variants.{Report, In, Out}
+use Rattle.receipt.specs.Lines.{productOf, finishedOf}
+use Rattle.receipt.specs.Receipts.{givenOf}
+use Rattle.books.specs.Groups.{eight, sum}
+use Rattle.books.specs.declared.Opened.{Opened}
+use Rattle.books.specs.declared.Opened.the-variants.{Nothing, Fiscal, Text}
+use Rattle.books.specs.declared.Shown.{Shown}
+use Rattle.books.specs.declared.Shown.the-variants as shown
+use Rattle.history.specs.Entries.{Entry, isDone, did, ofSale, ofPayment, ofClosing, ofService}
+
+-- 69 with 0: "0 closes the day, 2 only reports"
+abbrev pub closesDay : Entry → Bool
+closesDay e = isDone (e .number) && ofClosing false (λ clears. clears) (e .command)
+
+abbrev pub once : Bool → ℕ
+once happened = cond happened 1 0
+
+-- which receipt is open: 48 and 38 open one, 56, 60 and 39 leave none
+abbrev pub openReceipt : List Entry → Opened
+openReceipt [] = Nothing
+openReceipt (e ∷ es) =
+    cond (did 48 e) Fiscal (cond (did 38 e) Text (cond (did 39 e || did 56 e || did 60 e) Nothing (openReceipt es)))
+
+-- the fiscal receipt begins anew at 48, and 56 and 60 leave nothing of it
+abbrev pub begins : Entry → Bool
+begins e = did 48 e || did 56 e || did 60 e
+
+-- 49: what a line adds to a group, and with `-` takes off it
+module _ (g : ℕ) where
+  abbrev pub added : Entry → ℕ
+  added e =
+      cond (isDone (e .number))
+      (ofSale 0 (λ s. cond (eqb (s .group) g && not (s .minus)) (finishedOf (productOf s) (s .adjust)) 0) (e .command))
+      0
+
+  abbrev pub takenOff : Entry → ℕ
+  takenOff e = cond (isDone (e .number)) (ofSale 0 (λ s. cond (eqb (s .group) g && s .minus) (productOf s) 0) (e .command)) 0
+
+  abbrev pub receiptSum : List Entry → ℕ
+  receiptSum [] = 0
+  receiptSum (e ∷ es) = cond (begins e) 0 (receiptSum es + added e - takenOff e)
+
+abbrev pub receiptTotal : List Entry → ℕ
+receiptTotal es = sum (eight (λ g. receiptSum g es))
+
+-- 53: "`R` and the change"
+abbrev pub changeOf : Shown → ℕ
+changeOf shown.Nothing = 0
+changeOf shown.All = 0
+changeOf shown.AllAndFiscal = 0
+changeOf shown.Subtotal = 0
+changeOf (shown.Tendered full left) = cond full left 0
+changeOf shown.DaySums = 0
+changeOf shown.Taxes = 0
+changeOf shown.Closure = 0
+changeOf shown.InDrawer = 0
+changeOf shown.Status = 0
+changeOf shown.Rates = 0
+
+-- the modes told apart
+abbrev pub place : Mode → ℕ
+place Cash = 0
+place N = 1
+place C = 2
+place D = 3
+place B = 4
+
+abbrev pub by : Mode → Mode → Bool
+by m n = eqb (place m) (place n)
+
+abbrev pub byAny : Mode → Bool
+byAny m = true
+
+-- what a payment by such a mode brought: what was given ("none means the rest"), "change left out"
+abbrev pub brought : (Mode → Bool) → ℕ → Entry → ℕ
+brought test rest e =
+    cond (isDone (e .number))
+    (ofPayment 0 (λ p. cond (test (p .mode)) (givenOf rest (p .tender) - changeOf (e .shown)) 0) (e .command))
+    0
+
+-- what was paid on the open receipt, and what is still due
+abbrev pub paidSum : List Entry → ℕ
+paidSum [] = 0
+paidSum (e ∷ es) = cond (begins e) 0 (paidSum es + brought byAny (receiptTotal es - paidSum es) e)
+
+abbrev pub due : List Entry → ℕ
+due es = receiptTotal es - paidSum es
+
+-- 70: "optional sign (none means in) and PRICE"
+abbrev pub inOf : Service → ℕ
+inOf Report = 0
+inOf (In n) = n
+inOf (Out n) = 0
+
+abbrev pub outOf : Service → ℕ
+outOf Report = 0
+outOf (In n) = 0
+outOf (Out n) = n
+
+abbrev pub served : (Service → ℕ) → Entry → ℕ
+served way e = cond (isDone (e .number)) (ofService 0 way (e .command)) 0
+
+-- "Cash equals all that was put in less all that was taken out, over the whole history."
+abbrev pub putIn : List Entry → ℕ
+putIn [] = 0
+putIn (e ∷ es) = putIn es + brought (by Cash) (due es) e + served inOf e
+
+abbrev pub takenOut : List Entry → ℕ
+takenOut [] = 0
+takenOut (e ∷ es) = takenOut es + served outOf e
+
+-- since the last closing: the service sums, a mode's register, the counters (38 and 48, and 48 alone)
+abbrev pub serviceSum : (Service → ℕ) → List Entry → ℕ
+serviceSum way [] = 0
+serviceSum way (e ∷ es) = cond (closesDay e) 0 (serviceSum way es + served way e)
+
+abbrev pub register : Mode → List Entry → ℕ
+register m [] = 0
+register m (e ∷ es) = cond (closesDay e) 0 (register m es + brought (by m) (due es) e)
+
+abbrev pub allOpened : List Entry → ℕ
+allOpened [] = 0
+allOpened (e ∷ es) = cond (closesDay e) 0 (allOpened es + once (did 38 e || did 48 e))
+
+abbrev pub fiscalOpened : List Entry → ℕ
+fiscalOpened [] = 0
+fiscalOpened (e ∷ es) = cond (closesDay e) 0 (fiscalOpened es + once (did 48 e))
+
+-- 56: "The eight day sums take the receipt."
+abbrev pub daySum : ℕ → List Entry → ℕ
+daySum g [] = 0
+daySum g (e ∷ es) = cond (closesDay e) 0 (daySum g es + cond (did 56 e) (receiptSum g es) 0)
+
+-- 69: "closings made so far .. and FM .., the total over them"
+abbrev pub closings : List Entry → ℕ
+closings [] = 0
+closings (e ∷ es) = closings es + once (closesDay e)
+
+abbrev pub memorySum : List Entry → ℕ
+memorySum [] = 0
+memorySum (e ∷ es) = memorySum es + cond (closesDay e) (sum (eight (λ g. daySum g es))) 0

@@ -1,0 +1,5 @@
+pub mod Entries
+pub mod History
+pub mod Agrees
+pub mod Reached
+pub mod Digits
