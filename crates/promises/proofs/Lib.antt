@@ -1,0 +1,4 @@
+pub mod Joining
+pub mod Priced
+pub mod Demand2
+pub mod Demand3
