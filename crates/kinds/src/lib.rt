@@ -56,7 +56,7 @@ pub enum Service {
     Out(u64),
 }
 
-// The fourteen kinds. The texts of 42, 49 and 53 stay in the data: `figures::lines` hands them out.
+// The fourteen kinds. The texts of 42, 49 and 53 stay in the data: `lines::first_line` and `second_line` hand them out.
 pub enum Command {
     OpenText,
     CloseText,
