@@ -1,0 +1,1 @@
+// The demands as statements: definitions and proofs alone; no code of its own.
