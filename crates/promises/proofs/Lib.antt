@@ -1,3 +1,4 @@
+pub mod Demand1
 pub mod Joining
 pub mod Priced
 pub mod Demand2

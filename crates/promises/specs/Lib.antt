@@ -1,1 +1,3 @@
+pub mod Table
+pub mod Demand1
 pub mod Demand2

@@ -1,0 +1,256 @@
+-- Demand 1: every reply of any history, at both ends, is by the table.
+use mathlib.Core.Path.{_≡_, refl, sym, ap, _∙_, subst}
+use mathlib.Core.Bool.{Bool, true, false, cond, not, _&&_, _||_}
+use mathlib.Core.List.{List, [], _∷_}
+use Prim.Native.Nat.{ℕ, zero, suc, _≤_, _<_}
+use native.Mathlib.Omega.{arith}
+use lib.Dec.{eqb, leb, ltb}
+use lib.ListN.{length}
+use lib.Seq.{sets}
+use borrow.Author.Tests.{ltb-true, ltb-false, le-leb, lt-leb}
+use Rattle.wire.specs.Frame.{Message, commandOf, frame, sendable}
+use Rattle.wire.specs.declared.Kind.the-variants.{Command, Answer}
+use Rattle.reader.specs.Reading.{Place, Event, nothing, brokenFrame, heard, read}
+use Rattle.kinds.specs.declared.Parsed.{Parsed}
+use Rattle.kinds.specs.declared.Parsed.the-variants.{Read, Syntax, Unknown}
+use Rattle.books.specs.declared.Books.{Books}
+use Rattle.books.specs.declared.Shown.{Shown}
+use Rattle.answers.specs.Contents.{contentOf}
+use Rattle.command.specs.Commands.{parsedOf}
+use Rattle.deeds.specs.Deeds.{refusedWith, carriedOut}
+use Rattle.deeds.specs.declared.Deed.{Deed}
+use Rattle.history.specs.Reached.{Unchanged}
+use Rattle.history.proofs.Laws.{a-refusal-changes-nothing}
+use Rattle.line.specs.Turns as line
+use Rattle.device.specs.Carrying.{carry, deedFor, answerTo}
+use Rattle.till.specs.Turns as till
+use Rattle.till.specs.Words.{numberOf, countOf}
+use Rattle.till.specs.History as history
+use Rattle.till.specs.declared.Word.the-variants.{Idle, Waiting, SendAgain, Answered, Unfinished, TooShort, NotSent}
+use Rattle.till.proofs.Seeing.{failsBy}
+use Rattle.till.proofs.Tries.{unfinished-is-five}
+use Rattle.promises.specs.Table.{Row, rowOf}
+use Rattle.promises.specs.Demand1.{Bench, freshBench, Comes, atDevice, atTill, Reply, lentTurn, byDevice, byTill, reply, deedOn, answered, behindFrame, deviceMeans, deviceGives, deviceKeeps, tillMeans, tillGives, tillKeeps, triesOf, unsendable, lastFails, ByTheTable, allByTheTable, benchAfter}
+
+-- a command is done, or refused with 1 to 4 and nothing else
+data Judged (b : Books) : Deed → Type 0 where
+  did : {d : Deed} → d .number ≡ 0 → Judged b d
+  refuses1 : Judged b (refusedWith 1 b)
+  refuses2 : Judged b (refusedWith 2 b)
+  refuses3 : Judged b (refusedWith 3 b)
+  refuses4 : Judged b (refusedWith 4 b)
+
+refusal : (b : Books) (n : ℕ) → suc n ≤ 4 → Judged b (refusedWith (suc n) b)
+refusal b zero h = refuses1
+refusal b (suc zero) h = refuses2
+refusal b (suc (suc zero)) h = refuses3
+refusal b (suc (suc (suc zero))) h = refuses4
+refusal b (suc (suc (suc (suc n)))) h = absurd (omega arith)
+
+refused-is : (b : Books) (d : Deed) (n : ℕ) → d .number ≡ n → Unchanged b d → d ≡ refusedWith n b
+refused-is b d n e u =
+    ap (λ z. record { number = z; books = d .books; shown = d .shown }) e
+    ∙ ap (λ z. record { number = n; books = z; shown = d .shown }) (u .books)
+    ∙ ap (λ z. record { number = n; books = b; shown = z }) (u .shown)
+
+judge : (b : Books) (p : Parsed) → Judged b (deedFor b p)
+judge b Syntax = refuses1
+judge b Unknown = refuses2
+judge b (Read c) = go (carriedOut b c .number) refl
+  where
+    go : (n : ℕ) → carriedOut b c .number ≡ n → Judged b (carriedOut b c)
+    go zero e = did e
+    go (suc n) e =
+        let u : Unchanged b (carriedOut b c) = a-refusal-changes-nothing b c (λ z. omega (arith, z, e)) in
+        subst (Judged b) (sym (refused-is b (carriedOut b c) (suc n) e u)) (refusal b n (omega (arith, u .number, e)))
+
+-- what the row of a turn says of it
+record DeviceRow (s : line.State Books) (e : Event) (next : Place) (t : line.Turn Books) (row : Row) : Type 0 where
+  means : deviceMeans (row .means) s e
+  gives : deviceGives (row .returns) s e (t .gives)
+  keeps : deviceKeeps (row .stays) s e next (t .gives) (t .state)
+  numbered : t .number < 10
+  row-is : row .number ≡ t .number
+  long : false ≡ eqb (t .number) 7
+
+module _ (s : line.State Books) (next : Place) (m : Message) where
+  abbrev repeatTurn : line.Turn Books
+  repeatTurn =
+      record { number = 6; gives = line.lastAnswer (s .before); carried = []; state = record { place = next; before = s .before; books = s .books } }
+
+  abbrev orderTurn : Deed → line.Turn Books
+  orderTurn d =
+      record {
+        number = d .number;
+        gives = frame Answer (answerTo (s .books) (m .seq) (m .code) d);
+        carried = m ∷ [];
+        state = record { place = next; before = line.was (m .seq) (m .code) (frame Answer (answerTo (s .books) (m .seq) (m .code) d)); books = d .books };
+      }
+
+  abbrev Row-of : Deed → Type 0
+  Row-of d = deedOn s m ≡ d → line.repeats (s .before) m ≡ false → DeviceRow s (heard m) next (orderTurn d) (rowOf (d .number))
+
+  ordered : (b : Books) (x : Shown) → Row-of (record { number = 0; books = b; shown = x })
+  ordered b x e f =
+      record {
+        means = (f, ap (λ (d : Deed). d .number) e);
+        gives = sym (ap (λ (d : Deed). answered m (contentOf (d .shown) (s .books .day) (d .books)) 0x80 0x80 (d .books)) e);
+        keeps = sym (ap (λ (d : Deed). behindFrame next m (orderTurn (record { number = 0; books = b; shown = x }) .gives) (d .books)) e);
+        numbered = omega arith;
+        row-is = refl;
+        long = refl;
+      }
+
+  order : (d : Deed) → Judged (s .books) d → Row-of d
+  order d (did z) e f = subst Row-of (sym (ap (λ n. record { number = n; books = d .books; shown = d .shown }) z)) (ordered (d .books) (d .shown)) e f
+  order d refuses1 e f = record { means = (f, ap (λ (x : Deed). x .number) e); gives = refl; keeps = refl; numbered = omega arith; row-is = refl; long = refl }
+  order d refuses2 e f = record { means = (f, ap (λ (x : Deed). x .number) e); gives = refl; keeps = refl; numbered = omega arith; row-is = refl; long = refl }
+  order d refuses3 e f = record { means = (f, ap (λ (x : Deed). x .number) e); gives = refl; keeps = refl; numbered = omega arith; row-is = refl; long = refl }
+  order d refuses4 e f = record { means = (f, ap (λ (x : Deed). x .number) e); gives = refl; keeps = refl; numbered = omega arith; row-is = refl; long = refl }
+
+  whole-row : (repeat : Bool) → line.repeats (s .before) m ≡ repeat
+      → DeviceRow s (heard m) next (cond repeat repeatTurn (orderTurn (deedOn s m))) (rowOf (cond repeat repeatTurn (orderTurn (deedOn s m)) .number))
+  whole-row true f = record { means = f; gives = refl; keeps = refl; numbered = omega arith; row-is = refl; long = refl }
+  whole-row false f = order (deedOn s m) (judge (s .books) (parsedOf (m .code) (m .content))) refl f
+
+device-row : (s : line.State Books) (next : Place) (e : Event)
+    → DeviceRow s e next (line.onEvent carry s next e) (rowOf (line.onEvent carry s next e .number))
+device-row s next nothing = record { means = tt; gives = refl; keeps = refl; numbered = omega arith; row-is = refl; long = refl }
+device-row s next brokenFrame = record { means = tt; gives = refl; keeps = refl; numbered = omega arith; row-is = refl; long = refl }
+device-row s next (heard m) = whole-row s next m (line.repeats (s .before) m) refl
+
+at-device : (s : Bench) (buffer : List ℕ) (byte : ℕ) → ByTheTable s (atDevice buffer byte) (reply s (atDevice buffer byte))
+at-device s buffer byte = go (ltb (length buffer) 217) refl
+  where
+    go : (short : Bool) → ltb (length buffer) 217 ≡ short
+        → ByTheTable s (atDevice buffer byte) (byDevice s buffer (cond short (record { number = 7; gives = []; carried = []; state = s .device }) (line.turn carry (s .device) byte)))
+    go true e = record { numbered = omega arith; row = refl; short = e; means = tt; returns = (refl, refl); stays = (refl, refl); buffer = refl }
+    go false e =
+        let d = device-row (s .device) (read Command (s .device .place) byte .place) (read Command (s .device .place) byte .event) in
+        record {
+          numbered = d .numbered;
+          row = d .row-is;
+          short = e ∙ d .long;
+          means = d .means;
+          returns = (d .gives, refl);
+          stays = (d .keeps, refl);
+          buffer = refl;
+        }
+
+-- the till end
+record TillRow (s : till.State) (h : till.Happening) (t : till.Turn) (row : Row) : Type 0 where
+  means : tillMeans (row .means) s h
+  gives : tillGives (row .returns) s h (countOf (t .word)) (t .puts)
+  keeps : tillKeeps (row .stays) s h (t .state)
+  numbered : numberOf (t .word) < 10
+  row-is : row .number ≡ numberOf (t .word)
+  long : false ≡ eqb (numberOf (t .word)) 7
+
+module _ (next seq code : ℕ) (bytes : List ℕ) (tries : ℕ) (place : Place) where
+  abbrev held : till.State
+  held = record { next = next; pending = till.waits seq code bytes tries place }
+
+  -- the meaning of an event, as `takes` is given it
+  abbrev By : till.Happening → till.Turn → Type 0
+  By h t = till.takes held h ≡ t → TillRow held h t (rowOf (numberOf (t .word)))
+
+  fails : (h : till.Happening) → history.failureOf (held .pending) h ≡ 1 → unsendable held h ≡ false → By h (till.failsTry next seq code bytes tries)
+  fails h one can = go (ltb tries 5) refl
+    where
+      at-once : (late : Bool) → leb 5 tries ≡ late → lastFails held h ≡ late
+      at-once late e = ap (λ n. eqb n 1 && leb 5 tries) one ∙ e
+
+      go : (early : Bool) → ltb tries 5 ≡ early → By h (failsBy next seq code bytes tries early)
+      go true e k =
+          let early : tries < 5 = ltb-true tries 5 e in
+          record {
+            means = (can, at-once false (lt-leb 5 tries early));
+            gives = (ap (λ (t : till.Turn). t .puts) (sym k), refl);
+            keeps = ap (λ (t : till.Turn). t .state) (sym k);
+            numbered = omega arith;
+            row-is = refl;
+            long = refl;
+          }
+      go false e k =
+          let late : 5 ≤ tries = ltb-false tries 5 e in
+          record { means = at-once true (le-leb 5 tries late); gives = (refl, refl); keeps = refl; numbered = omega arith; row-is = refl; long = refl }
+
+  on-byte : (b : ℕ) (x : till.Meaning) → till.byteMeans seq code place b ≡ x → By (till.byte b) (till.onMeaning next seq code bytes tries x)
+  on-byte b till.failed e k = fails (till.byte b) (ap history.failure e) refl k
+  on-byte b (till.goesOn q) e k =
+      record {
+        means = (refl, ap (λ x. eqb (history.failure x) 1 && leb 5 tries) e);
+        gives = (ap (λ (t : till.Turn). t .puts) (sym k), refl);
+        keeps = ap (λ (t : till.Turn). t .state) (sym k);
+        numbered = omega arith;
+        row-is = refl;
+        long = refl;
+      }
+  on-byte b (till.answers a) e k =
+      record {
+        means = (refl, ap (λ x. eqb (history.failure x) 1 && leb 5 tries) e);
+        gives = (ap (λ (t : till.Turn). t .puts) (sym k), refl);
+        keeps = ap (λ (t : till.Turn). t .state) (sym k);
+        numbered = omega arith;
+        row-is = refl;
+        long = refl;
+      }
+
+-- a command where none waits
+module _ (next code : ℕ) (content : List ℕ) where
+  abbrev free : till.State
+  free = record { next = next; pending = till.idle }
+
+  abbrev sentIf : Bool → till.Turn
+  sentIf can = cond can (till.sent next (commandOf next code content)) (till.stays NotSent free)
+
+  sends : (can : Bool) → sendable Command (commandOf next code content) ≡ can → till.takes free (till.command code content) ≡ sentIf can
+      → TillRow free (till.command code content) (sentIf can) (rowOf (numberOf (sentIf can .word)))
+  sends true e k =
+      record {
+        means = (ap not e, refl);
+        gives = (ap (λ (t : till.Turn). t .puts) (sym k), refl);
+        keeps = ap (λ (t : till.Turn). t .state) (sym k);
+        numbered = omega arith;
+        row-is = refl;
+        long = refl;
+      }
+  sends false e k = record { means = ap not e; gives = (refl, refl); keeps = refl; numbered = omega arith; row-is = refl; long = refl }
+
+till-row : (next : ℕ) (p : till.Pending) (h : till.Happening)
+    → TillRow (record { next = next; pending = p }) h (till.takes (record { next = next; pending = p }) h)
+    (rowOf (numberOf (till.takes (record { next = next; pending = p }) h .word)))
+till-row next till.idle (till.command code content) = sends next code content (sendable Command (commandOf next code content)) refl refl
+till-row next till.idle (till.byte b) = record { means = (refl, refl); gives = (refl, refl); keeps = refl; numbered = omega arith; row-is = refl; long = refl }
+till-row next till.idle till.timeout = record { means = (refl, refl); gives = (refl, refl); keeps = refl; numbered = omega arith; row-is = refl; long = refl }
+till-row next (till.waits seq code bytes tries place) (till.command other content) =
+    record { means = refl; gives = (refl, refl); keeps = refl; numbered = omega arith; row-is = refl; long = refl }
+till-row next (till.waits seq code bytes tries place) (till.byte b) = on-byte next seq code bytes tries place b (till.byteMeans seq code place b) refl refl
+till-row next (till.waits seq code bytes tries place) till.timeout = fails next seq code bytes tries place till.timeout refl refl refl
+
+at-till : (s : Bench) (buffer : List ℕ) (h : till.Happening) → ByTheTable s (atTill buffer h) (reply s (atTill buffer h))
+at-till s buffer h = go (ltb (length buffer) 210) refl
+  where
+    go : (short : Bool) → ltb (length buffer) 210 ≡ short
+        → ByTheTable s (atTill buffer h) (byTill s buffer (cond short (till.stays TooShort (s .till)) (till.takes (s .till) h)))
+    go true e = record { numbered = omega arith; row = refl; short = e; means = tt; returns = (refl, refl); stays = (refl, refl); buffer = refl }
+    go false e =
+        let d = till-row (s .till .next) (s .till .pending) h in
+        record {
+          numbered = d .numbered;
+          row = d .row-is;
+          short = e ∙ d .long;
+          means = d .means;
+          returns = d .gives;
+          stays = (d .keeps, refl);
+          buffer = refl;
+        }
+
+at-once : (s : Bench) (c : Comes) → ByTheTable s c (reply s c)
+at-once s (atDevice buffer byte) = at-device s buffer byte
+at-once s (atTill buffer h) = at-till s buffer h
+
+-- the theorem: from any state of both ends, so at any moment, whatever comes to either of them gets its one reply by the table
+pub every-reply-is-by-the-table : (s : Bench) (cs : List Comes) → allByTheTable s cs
+every-reply-is-by-the-table s [] = tt
+every-reply-is-by-the-table s (c ∷ cs) = (at-once s c, every-reply-is-by-the-table (reply s c .bench) cs)
