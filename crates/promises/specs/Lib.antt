@@ -1,2 +1,3 @@
 pub mod Table
 pub mod Demand1
+pub mod Coded
