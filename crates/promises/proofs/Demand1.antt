@@ -26,11 +26,12 @@ use Rattle.device.specs.Carrying.{carry, deedFor, answerTo}
 use Rattle.till.specs.Turns as till
 use Rattle.till.specs.Words.{numberOf, countOf}
 use Rattle.till.specs.History as history
+use Rattle.till.specs.declared.Word.{Word}
 use Rattle.till.specs.declared.Word.the-variants.{Idle, Waiting, SendAgain, Answered, Unfinished, TooShort, NotSent}
 use Rattle.till.proofs.Seeing.{failsBy}
 use Rattle.till.proofs.Tries.{unfinished-is-five}
 use Rattle.promises.specs.Table.{Row, rowOf}
-use Rattle.promises.specs.Demand1.{Bench, freshBench, Comes, atDevice, atTill, Reply, lentTurn, byDevice, byTill, reply, deedOn, answered, behindFrame, deviceMeans, deviceGives, deviceKeeps, tillMeans, tillGives, tillKeeps, triesOf, unsendable, lastFails, ByTheTable, allByTheTable, benchAfter}
+use Rattle.promises.specs.Demand1.{Bench, freshBench, Comes, atDevice, atTill, Reply, lentTurn, byDevice, byTill, reply, tillPart, deedOn, meant, answered, behindFrame, deviceMeans, deviceGives, deviceKeeps, tillMeans, tillGives, tillKeeps, triesOf, unsendable, lastFails, ByTheTable, allByTheTable, benchAfter}
 
 -- a command is done, or refused with 1 to 4 and nothing else
 data Judged (b : Books) : Deed → Type 0 where
@@ -254,3 +255,28 @@ at-once s (atTill buffer h) = at-till s buffer h
 pub every-reply-is-by-the-table : (s : Bench) (cs : List Comes) → allByTheTable s cs
 every-reply-is-by-the-table s [] = tt
 every-reply-is-by-the-table s (c ∷ cs) = (at-once s c, every-reply-is-by-the-table (reply s c .bench) cs)
+
+-- "9: .. the number of tries, 5": row 9 says of any state that the number is that of the tries; from a fresh till end on it is five
+till-after : (s : Bench) (cs : List Comes) → benchAfter s cs .till ≡ history.behind (s .till) (tillPart cs)
+till-after s [] = refl
+till-after s (atDevice buffer byte ∷ cs) = till-after (reply s (atDevice buffer byte) .bench) cs ∙ ap (λ z. history.behind z (tillPart cs)) (at-device s buffer byte .stays .1)
+till-after s (atTill buffer h ∷ cs) = till-after (reply s (atTill buffer h) .bench) cs
+
+nine : (P : ℕ → Type 0) (w : Word) → numberOf w ≡ 9 → ((n : ℕ) → w ≡ Unfinished n → P n) → P (countOf w)
+nine P Idle e k = absurd (omega (arith, e))
+nine P (Waiting n) e k = absurd (omega (arith, e))
+nine P (SendAgain n) e k = absurd (omega (arith, e))
+nine P (Answered n) e k = absurd (omega (arith, e))
+nine P (Unfinished n) e k = k n refl
+nine P TooShort e k = absurd (omega (arith, e))
+nine P NotSent e k = absurd (omega (arith, e))
+
+pub unfinished-after-five : (cs : List Comes) (c : Comes) → reply (benchAfter freshBench cs) c .number ≡ 9 → reply (benchAfter freshBench cs) c .count ≡ 5
+unfinished-after-five cs (atDevice buffer byte) e =
+    let s : Bench = benchAfter freshBench cs in
+    absurd (subst (λ n. meant (rowOf n .means) s (atDevice buffer byte)) e (at-device s buffer byte .means))
+unfinished-after-five cs (atTill buffer h) e =
+    let s : Bench = benchAfter freshBench cs in
+    nine (λ n. n ≡ 5) (till.hears (length buffer) (s .till) h .word) e (λ n k.
+    unfinished-is-five (tillPart cs) (record { size = length buffer; happens = h }) n
+    (ap (λ z. till.hears (length buffer) z h .word) (sym (till-after freshBench cs)) ∙ k) .five)

@@ -1,4 +1,5 @@
 pub mod Demand1
+pub mod Coded
 pub mod Joining
 pub mod Priced
 pub mod Demand2

@@ -20,7 +20,7 @@ use Rattle.deeds.specs.declared.Deed.{Deed}
 use Rattle.line.specs.Turns as line
 use Rattle.device.specs.Carrying.{carry, deedFor}
 use Rattle.till.specs.Turns as till
-use Rattle.till.specs.History.{failureOf}
+use Rattle.till.specs.History.{Lent, failureOf}
 use Rattle.till.specs.Words.{numberOf, countOf}
 use Rattle.promises.specs.Table.{Meaning, doneOrTaken, syntax, unknownCommand, notPermittedNow, overflow, broken, repeated, tooShort, cannotBeSent, unfinished, Returns, answerOrNothing, answerWith, oneNak, theLastAnswer, noBytes, theTries, Stays, asTheCommandSays, receiptDayCash, allButReading, everything, waitingGivenUp, Row, rowOf}
 
@@ -220,3 +220,9 @@ allByTheTable s (c ∷ cs) = ByTheTable s c (reply s c) × allByTheTable (reply 
 abbrev pub benchAfter : Bench → List Comes → Bench
 benchAfter s [] = s
 benchAfter s (c ∷ cs) = benchAfter (reply s c .bench) cs
+
+-- what the till end sees of a history
+abbrev pub tillPart : List Comes → List Lent
+tillPart [] = []
+tillPart (atDevice buffer byte ∷ cs) = tillPart cs
+tillPart (atTill buffer h ∷ cs) = record { size = length buffer; happens = h } ∷ tillPart cs

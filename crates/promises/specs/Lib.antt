@@ -1,3 +1,4 @@
 pub mod Table
 pub mod Demand1
+pub mod Coded
 pub mod Demand2
