@@ -1,2 +1,3 @@
+pub mod Verdicts
 pub mod Demand1
 pub mod Coded
