@@ -1,28 +1,23 @@
 -- Demand 1: every reply of any history, at both ends, is by the table.
 use mathlib.Core.Path.{_≡_, refl, sym, ap, _∙_, subst}
-use mathlib.Core.Bool.{Bool, true, false, cond, not, _&&_, _||_}
+use mathlib.Core.Bool.{Bool, true, false, cond, not, _&&_}
 use mathlib.Core.List.{List, [], _∷_}
-use Prim.Native.Nat.{ℕ, zero, suc, _≤_, _<_}
+use Prim.Native.Nat.{ℕ, _≤_, _<_}
 use native.Mathlib.Omega.{arith}
 use lib.Dec.{eqb, leb, ltb}
 use lib.ListN.{length}
-use lib.Seq.{sets}
 use borrow.Author.Tests.{ltb-true, ltb-false, le-leb, lt-leb}
 use Rattle.wire.specs.Frame.{Message, commandOf, frame, sendable}
 use Rattle.wire.specs.declared.Kind.the-variants.{Command, Answer}
 use Rattle.reader.specs.Reading.{Place, Event, nothing, brokenFrame, heard, read}
 use Rattle.kinds.specs.declared.Parsed.{Parsed}
-use Rattle.kinds.specs.declared.Parsed.the-variants.{Read, Syntax, Unknown}
 use Rattle.books.specs.declared.Books.{Books}
 use Rattle.books.specs.declared.Shown.{Shown}
 use Rattle.answers.specs.Contents.{contentOf}
 use Rattle.command.specs.Commands.{parsedOf}
-use Rattle.deeds.specs.Deeds.{refusedWith, carriedOut}
 use Rattle.deeds.specs.declared.Deed.{Deed}
-use Rattle.history.specs.Reached.{Unchanged}
-use Rattle.history.proofs.Laws.{a-refusal-changes-nothing}
 use Rattle.line.specs.Turns as line
-use Rattle.device.specs.Carrying.{carry, deedFor, answerTo}
+use Rattle.device.specs.Carrying.{carry, answerTo}
 use Rattle.till.specs.Turns as till
 use Rattle.till.specs.Words.{numberOf, countOf}
 use Rattle.till.specs.History as history
@@ -30,40 +25,9 @@ use Rattle.till.specs.declared.Word.{Word}
 use Rattle.till.specs.declared.Word.the-variants.{Idle, Waiting, SendAgain, Answered, Unfinished, TooShort, NotSent}
 use Rattle.till.proofs.Seeing.{failsBy}
 use Rattle.till.proofs.Tries.{unfinished-is-five}
+use Rattle.promises.proofs.Verdicts.{did, refused3, refused4, Judged, unread, unknown, asked, judge}
 use Rattle.promises.specs.Table.{Row, rowOf}
-use Rattle.promises.specs.Demand1.{Bench, freshBench, Comes, atDevice, atTill, Reply, lentTurn, byDevice, byTill, reply, tillPart, deedOn, meant, answered, behindFrame, deviceMeans, deviceGives, deviceKeeps, tillMeans, tillGives, tillKeeps, triesOf, unsendable, lastFails, ByTheTable, allByTheTable, benchAfter}
-
--- a command is done, or refused with 1 to 4 and nothing else
-data Judged (b : Books) : Deed → Type 0 where
-  did : {d : Deed} → d .number ≡ 0 → Judged b d
-  refuses1 : Judged b (refusedWith 1 b)
-  refuses2 : Judged b (refusedWith 2 b)
-  refuses3 : Judged b (refusedWith 3 b)
-  refuses4 : Judged b (refusedWith 4 b)
-
-refusal : (b : Books) (n : ℕ) → suc n ≤ 4 → Judged b (refusedWith (suc n) b)
-refusal b zero h = refuses1
-refusal b (suc zero) h = refuses2
-refusal b (suc (suc zero)) h = refuses3
-refusal b (suc (suc (suc zero))) h = refuses4
-refusal b (suc (suc (suc (suc n)))) h = absurd (omega arith)
-
-refused-is : (b : Books) (d : Deed) (n : ℕ) → d .number ≡ n → Unchanged b d → d ≡ refusedWith n b
-refused-is b d n e u =
-    ap (λ z. record { number = z; books = d .books; shown = d .shown }) e
-    ∙ ap (λ z. record { number = n; books = z; shown = d .shown }) (u .books)
-    ∙ ap (λ z. record { number = n; books = b; shown = z }) (u .shown)
-
-judge : (b : Books) (p : Parsed) → Judged b (deedFor b p)
-judge b Syntax = refuses1
-judge b Unknown = refuses2
-judge b (Read c) = go (carriedOut b c .number) refl
-  where
-    go : (n : ℕ) → carriedOut b c .number ≡ n → Judged b (carriedOut b c)
-    go zero e = did e
-    go (suc n) e =
-        let u : Unchanged b (carriedOut b c) = a-refusal-changes-nothing b c (λ z. omega (arith, z, e)) in
-        subst (Judged b) (sym (refused-is b (carriedOut b c) (suc n) e u)) (refusal b n (omega (arith, u .number, e)))
+use Rattle.promises.specs.Demand1.{Bench, freshBench, Comes, atDevice, atTill, byDevice, byTill, reply, tillPart, deedOn, meant, answered, behindFrame, deviceMeans, deviceGives, deviceKeeps, tillMeans, tillGives, tillKeeps, unsendable, lastFails, ByTheTable, allByTheTable, benchAfter}
 
 -- what the row of a turn says of it
 record DeviceRow (s : line.State Books) (e : Event) (next : Place) (t : line.Turn Books) (row : Row) : Type 0 where
@@ -102,17 +66,18 @@ module _ (s : line.State Books) (next : Place) (m : Message) where
         long = refl;
       }
 
-  order : (d : Deed) → Judged (s .books) d → Row-of d
-  order d (did z) e f = subst Row-of (sym (ap (λ n. record { number = n; books = d .books; shown = d .shown }) z)) (ordered (d .books) (d .shown)) e f
-  order d refuses1 e f = record { means = (f, ap (λ (x : Deed). x .number) e); gives = refl; keeps = refl; numbered = omega arith; row-is = refl; long = refl }
-  order d refuses2 e f = record { means = (f, ap (λ (x : Deed). x .number) e); gives = refl; keeps = refl; numbered = omega arith; row-is = refl; long = refl }
-  order d refuses3 e f = record { means = (f, ap (λ (x : Deed). x .number) e); gives = refl; keeps = refl; numbered = omega arith; row-is = refl; long = refl }
-  order d refuses4 e f = record { means = (f, ap (λ (x : Deed). x .number) e); gives = refl; keeps = refl; numbered = omega arith; row-is = refl; long = refl }
+  order : (p : Parsed) (d : Deed) → Judged (s .books) p d → parsedOf (m .code) (m .content) ≡ p → Row-of d
+  order p d unread r e f = record { means = (f, r); gives = refl; keeps = refl; numbered = omega arith; row-is = refl; long = refl }
+  order p d unknown r e f = record { means = (f, r); gives = refl; keeps = refl; numbered = omega arith; row-is = refl; long = refl }
+  order p d (asked refused3) r e f = record { means = (f, ap (λ (x : Deed). x .number) e); gives = refl; keeps = refl; numbered = omega arith; row-is = refl; long = refl }
+  order p d (asked refused4) r e f = record { means = (f, ap (λ (x : Deed). x .number) e); gives = refl; keeps = refl; numbered = omega arith; row-is = refl; long = refl }
+  order p d (asked (did z)) r e f =
+      subst Row-of (sym (ap (λ n. record { number = n; books = d .books; shown = d .shown }) z)) (ordered (d .books) (d .shown)) e f
 
   whole-row : (repeat : Bool) → line.repeats (s .before) m ≡ repeat
       → DeviceRow s (heard m) next (cond repeat repeatTurn (orderTurn (deedOn s m))) (rowOf (cond repeat repeatTurn (orderTurn (deedOn s m)) .number))
   whole-row true f = record { means = f; gives = refl; keeps = refl; numbered = omega arith; row-is = refl; long = refl }
-  whole-row false f = order (deedOn s m) (judge (s .books) (parsedOf (m .code) (m .content))) refl f
+  whole-row false f = order (parsedOf (m .code) (m .content)) (deedOn s m) (judge (s .books) (m .code) (m .content)) refl refl f
 
 device-row : (s : line.State Books) (next : Place) (e : Event)
     → DeviceRow s e next (line.onEvent carry s next e) (rowOf (line.onEvent carry s next e .number))

@@ -15,6 +15,8 @@ use Rattle.books.specs.Books.{freshBooks}
 use Rattle.books.specs.declared.Books.{Books}
 use Rattle.answers.specs.Contents.{contentOf}
 use Rattle.answers.specs.Status.{receipts, memories}
+use Rattle.kinds.specs.declared.Parsed.{Parsed}
+use Rattle.kinds.specs.declared.Parsed.the-variants.{Syntax, Unknown}
 use Rattle.command.specs.Commands.{parsedOf}
 use Rattle.deeds.specs.declared.Deed.{Deed}
 use Rattle.line.specs.Turns as line
@@ -86,13 +88,17 @@ during (heard m) taken breaks whole = whole m
 abbrev pub deedOn : line.State Books → Message → Deed
 deedOn s m = deedFor (s .books) (parsedOf (m .code) (m .content))
 
+-- a whole frame that is no repeat, by what it is read as: "Order: .. 2, 1" before the books are asked; and by what they say
+abbrev pub readAs : Parsed → line.State Books → Message → Type 0
+readAs p s m = (line.repeats (s .before) m ≡ false) × (parsedOf (m .code) (m .content) ≡ p)
+
 abbrev pub judged : ℕ → line.State Books → Message → Type 0
 judged number s m = (line.repeats (s .before) m ≡ false) × (deedOn s m .number ≡ number)
 
 abbrev pub deviceMeans : Meaning → line.State Books → Event → Type 0
 deviceMeans doneOrTaken s e = during e (Unit {0}) ⊥ (judged 0 s)
-deviceMeans syntax s e = during e ⊥ ⊥ (judged 1 s)
-deviceMeans unknownCommand s e = during e ⊥ ⊥ (judged 2 s)
+deviceMeans syntax s e = during e ⊥ ⊥ (readAs Syntax s)
+deviceMeans unknownCommand s e = during e ⊥ ⊥ (readAs Unknown s)
 deviceMeans notPermittedNow s e = during e ⊥ ⊥ (judged 3 s)
 deviceMeans overflow s e = during e ⊥ ⊥ (judged 4 s)
 deviceMeans broken s e = during e ⊥ (Unit {0}) (λ m. ⊥)
