@@ -1,6 +1,6 @@
 -- What the code promises of one event is the reply that the table speaks of, and its fields and arrays say the state that comes next: so the code's replies
 -- over any history are those of `Demand1`.
-use mathlib.Core.Path.{_≡_, refl, sym, ap, _∙_, subst}
+use mathlib.Core.Path.{_≡_, refl}
 use mathlib.Core.Bool.{Bool, true, false, cond}
 use mathlib.Core.List.{List, []}
 use Prim.Native.Nat.{ℕ, _≤_, _<_}
@@ -17,8 +17,6 @@ use Rattle.till.specs.Turns as till
 use Rattle.till.specs.Fields as fields
 use Rattle.till.specs.Promises.{Bytes}
 use Rattle.till.specs.declared.Till.{Till}
-use Rattle.till.specs.declared.Said.{Said}
-use Rattle.till.specs.Words.{numberOf, countOf}
 use Rattle.till.proofs.Following.{fields-follow}
 use Rattle.promises.specs.Demand1.{Bench, atDevice, atTill, byDevice, reply}
 use Rattle.promises.specs.Coded.{DeviceSays, TillSays}

@@ -1,12 +1,12 @@
 -- Demand 1: every reply of any history, at both ends, is by the table.
 use mathlib.Core.Path.{_≡_, refl, sym, ap, _∙_, subst}
-use mathlib.Core.Bool.{Bool, true, false, cond, not, _&&_}
+use mathlib.Core.Bool.{Bool, true, false, cond, not, _&&_, false≢true}
 use mathlib.Core.List.{List, [], _∷_}
 use Prim.Native.Nat.{ℕ, _≤_, _<_}
 use native.Mathlib.Omega.{arith}
 use lib.Dec.{eqb, leb, ltb}
 use lib.ListN.{length}
-use borrow.Author.Tests.{ltb-true, ltb-false, le-leb, lt-leb}
+use borrow.Author.Tests.{ltb-true, ltb-false, le-leb, lt-leb, le-ltb}
 use Rattle.wire.specs.Frame.{Message, commandOf, frame, sendable}
 use Rattle.wire.specs.declared.Kind.the-variants.{Command, Answer}
 use Rattle.reader.specs.Reading.{Place, Event, nothing, brokenFrame, heard, read}
@@ -27,7 +27,7 @@ use Rattle.till.proofs.Seeing.{failsBy}
 use Rattle.till.proofs.Tries.{unfinished-is-five}
 use Rattle.promises.proofs.Verdicts.{did, refused3, refused4, Judged, unread, unknown, asked, judge}
 use Rattle.promises.specs.Table.{Row, rowOf}
-use Rattle.promises.specs.Demand1.{Bench, freshBench, Comes, atDevice, atTill, byDevice, byTill, reply, tillPart, deedOn, meant, answered, behindFrame, deviceMeans, deviceGives, deviceKeeps, tillMeans, tillGives, tillKeeps, unsendable, lastFails, ByTheTable, allByTheTable, benchAfter}
+use Rattle.promises.specs.Demand1.{Bench, freshBench, Comes, atDevice, atTill, byDevice, byTill, reply, tillPart, deedOn, meant, returned, answered, behindFrame, deviceMeans, deviceGives, deviceKeeps, tillMeans, tillGives, tillKeeps, unsendable, lastFails, ByTheTable, allByTheTable, benchAfter}
 
 -- what the row of a turn says of it
 record DeviceRow (s : line.State Books) (e : Event) (next : Place) (t : line.Turn Books) (row : Row) : Type 0 where
@@ -245,3 +245,27 @@ unfinished-after-five cs (atTill buffer h) e =
     nine (λ n. n ≡ 5) (till.hears (length buffer) (s .till) h .word) e (λ n k.
     unfinished-is-five (tillPart cs) (record { size = length buffer; happens = h }) n
     (ap (λ z. till.hears (length buffer) z h .word) (sym (till-after freshBench cs)) ∙ k) .five)
+
+-- "After the fifth failed try the till end says Unfinished, never an answer": the table leaves it no other number
+no-command : (p : till.Pending) (n : ℕ) (h : till.Happening) → unsendable (record { next = n; pending = p }) h ≡ true → lastFails (record { next = n; pending = p }) h ≡ true → ⊥
+no-command till.idle n h u f = false≢true f
+no-command (till.waits seq code bytes tries place) n (till.command other content) u f = false≢true f
+no-command (till.waits seq code bytes tries place) n (till.byte b) u f = false≢true u
+no-command (till.waits seq code bytes tries place) n till.timeout u f = false≢true u
+
+pub the-fifth-failed-try : (s : Bench) (buffer : List ℕ) (h : till.Happening) → 210 ≤ length buffer → lastFails (s .till) h ≡ true
+    → (reply s (atTill buffer h) .number ≡ 9) × (reply s (atTill buffer h) .bytes ≡ [])
+the-fifth-failed-try s buffer h big f =
+    let r = reply s (atTill buffer h) in
+    let t = at-till s buffer h in
+    let nine : r .number ≡ 9 = go (till.hears (length buffer) (s .till) h .word) (t .short) (t .means) in
+    (nine, subst (λ n. returned (rowOf n .returns) s (atTill buffer h) r) nine (t .returns) .0)
+  where
+    go : (w : Word) → ltb (length buffer) 210 ≡ eqb (numberOf w) 7 → meant (rowOf (numberOf w) .means) s (atTill buffer h) → numberOf w ≡ 9
+    go Idle short m = absurd (false≢true (sym (m .1) ∙ f))
+    go (Waiting n) short m = absurd (false≢true (sym (m .1) ∙ f))
+    go (SendAgain n) short m = absurd (false≢true (sym (m .1) ∙ f))
+    go (Answered n) short m = absurd (false≢true (sym (m .1) ∙ f))
+    go (Unfinished n) short m = refl
+    go TooShort short m = absurd (false≢true (sym (le-ltb (length buffer) 210 big) ∙ short))
+    go NotSent short m = absurd (no-command (s .till .pending) (s .till .next) h m f)

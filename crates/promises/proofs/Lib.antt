@@ -1,6 +1,7 @@
 pub mod Verdicts
 pub mod Demand1
 pub mod Coded
+pub mod Rows
 pub mod Joining
 pub mod Priced
 pub mod Demand2

@@ -1,5 +1,5 @@
 -- A command that was read holds numbers of its fields alone; so it is done, or refused with 3 or 4: 1 and 2 are told before the books are asked.
-use mathlib.Core.Path.{_≡_, refl, sym, ap, _∙_, subst}
+use mathlib.Core.Path.{_≡_, refl, ap, _∙_}
 use mathlib.Core.Bool.{Bool, true, false, cond, not, _&&_, _||_, false≢true}
 use mathlib.Core.List.{List, [], _∷_}
 use Prim.Native.Nat.{ℕ, _+_, _-_, _<_, min}
@@ -20,7 +20,7 @@ use Rattle.lines.specs.Texts.{isText, restOf}
 use Rattle.lines.specs.declared.Found.{Found}
 use Rattle.lines.specs.declared.Found.the-variants.{At, NotThere}
 use Rattle.kinds.specs.Fields.{given, comma}
-use Rattle.kinds.specs.Plain.{bareOf, textOf, openWith, openOf, isFlag, subtotalOf, sumsOf, closingOf}
+use Rattle.kinds.specs.Plain.{bareOf, openOf, isFlag, sumsOf, closingOf}
 use Rattle.kinds.specs.declared.Adjust.{Adjust}
 use Rattle.kinds.specs.declared.Adjust.the-variants.{Nothing}
 use Rattle.kinds.specs.declared.Adjusted.{Adjusted}
@@ -35,7 +35,7 @@ use Rattle.kinds.specs.declared.Payment.{Payment}
 use Rattle.kinds.specs.declared.Sale.{Sale}
 use Rattle.kinds.specs.declared.Service.{Service}
 use Rattle.kinds.specs.declared.Service.the-variants.{Report, In, Out}
-use Rattle.command.specs.Money.{star, semicolon, groupOf, percentBy, amountBy, adjustOf, lineOf, quantityIn, pricedOf, adjustedBy, takenOffOf, soldOf, behindTabOf, behind, sellOf, isMode, modeOf, tenderOf, paidOf, payOf, movedBy, drawerOf}
+use Rattle.command.specs.Money.{star, semicolon, groupOf, percentBy, amountBy, adjustOf, lineOf, quantityIn, pricedOf, adjustedBy, soldOf, behindTabOf, behind, isMode, modeOf, tenderOf, paidOf, payOf, movedBy, drawerOf}
 use Rattle.command.specs.Commands.{parsedOf}
 use Rattle.receipt.specs.Lines.{adjustFits, fits}
 use Rattle.receipt.specs.Receipts as receipts
@@ -46,7 +46,7 @@ use Rattle.books.specs.Groups.{at}
 use Rattle.books.specs.Rates.{rateOf, isEnabled}
 use Rattle.books.specs.Sound.{inTwelve, sound}
 use Rattle.books.specs.declared.Books.{Books}
-use Rattle.deeds.specs.Deeds.{refusedWith, judged, full, isRight, soldAs, registerOf, paidAs, cancelledAs, deedOf, carriedOut}
+use Rattle.deeds.specs.Deeds.{refusedWith, judged, full, isRight, soldAs, registerOf, paidAs, cancelledAs, deedOf}
 use Rattle.deeds.specs.declared.Deed.{Deed}
 use Rattle.device.specs.Carrying.{deedFor}
 

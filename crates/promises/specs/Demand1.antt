@@ -24,7 +24,7 @@ use Rattle.device.specs.Carrying.{carry, deedFor}
 use Rattle.till.specs.Turns as till
 use Rattle.till.specs.History.{Lent, failureOf}
 use Rattle.till.specs.Words.{numberOf, countOf}
-use Rattle.promises.specs.Table.{Meaning, doneOrTaken, syntax, unknownCommand, notPermittedNow, overflow, broken, repeated, tooShort, cannotBeSent, unfinished, Returns, answerOrNothing, answerWith, oneNak, theLastAnswer, noBytes, theTries, Stays, asTheCommandSays, receiptDayCash, allButReading, everything, waitingGivenUp, Row, rowOf}
+use Rattle.promises.specs.Table.{Meaning, doneOrTaken, syntax, unknownCommand, notPermittedNow, overflow, broken, repeated, tooShort, cannotBeSent, unfinished, Returns, answerOrNothing, answerWith, oneNak, theLastAnswer, noBytes, theTries, Stays, asTheCommandSays, receiptDayCash, allButReading, everything, waitingGivenUp, rowOf}
 
 -- both ends
 pub record Bench : Type 0 where
@@ -88,10 +88,11 @@ during (heard m) taken breaks whole = whole m
 abbrev pub deedOn : line.State Books → Message → Deed
 deedOn s m = deedFor (s .books) (parsedOf (m .code) (m .content))
 
--- a whole frame that is no repeat, by what it is read as: "Order: .. 2, 1" before the books are asked; and by what they say
+-- no repeat, and read as syntax or unknown: "Order: .. 6, 2, 1" before the books are asked
 abbrev pub readAs : Parsed → line.State Books → Message → Type 0
 readAs p s m = (line.repeats (s .before) m ≡ false) × (parsedOf (m .code) (m .content) ≡ p)
 
+-- no repeat, and judged by the books
 abbrev pub judged : ℕ → line.State Books → Message → Type 0
 judged number s m = (line.repeats (s .before) m ≡ false) × (deedOn s m .number ≡ number)
 
@@ -173,7 +174,7 @@ tillMeans tooShort s h = Unit {0}
 tillMeans cannotBeSent s h = unsendable s h ≡ true
 tillMeans unfinished s h = lastFails s h ≡ true
 
--- what is given back with Idle, Waiting, Send again and Answered, `takes` says
+-- row 0: Idle, Waiting, Send again and Answered, each with its bytes and what it leaves, as "The till end" says: `takes`
 abbrev pub tillGives : Returns → till.State → till.Happening → (count : ℕ) → List ℕ → Type 0
 tillGives answerOrNothing s h count bytes = (bytes ≡ till.takes s h .puts) × (count ≡ length bytes)
 tillGives (answerWith first second) s h count bytes = ⊥
@@ -217,7 +218,7 @@ pub record ByTheTable (s : Bench) (c : Comes) (r : Reply) : Type 0 where
   -- "Buffer bytes past the answer stay as they were; when nothing is given back, all do."
   pub buffer : r .buffer ≡ sets (lentFor c) 0 (r .bytes)
 
--- every reply of a history
+-- every reply of a history, from any state: so at any moment
 abbrev pub allByTheTable : Bench → List Comes → Type 0
 allByTheTable s [] = Unit {0}
 allByTheTable s (c ∷ cs) = ByTheTable s c (reply s c) × allByTheTable (reply s c .bench) cs
