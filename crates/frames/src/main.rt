@@ -4,6 +4,29 @@ use wire::Built;
 use wire::Kind;
 
 fn main() {
+    papers();
+    tell(
+        b"01h inside a frame: ",
+        reader::listen(
+            Kind::Command,
+            b"\x01\x24\x50\x01\x24\x50\x4A\x05\x30\x30\x3C\x33\x03",
+        ),
+    );
+    tell(
+        b"01h directly after 01h: ",
+        reader::listen(
+            Kind::Command,
+            b"\x01\x01\x24\x50\x4A\x05\x30\x30\x3C\x33\x03",
+        ),
+    );
+    io::write_all(STDOUT_FILENO, b"BCC of 12ABh and 1AE3h\n");
+    show(&wire::suit::bcc_bytes(0x12AB));
+    show(&wire::suit::bcc_bytes(0x1AE3));
+    refused();
+}
+
+// Theirs, byte for byte.
+fn papers() {
     command(b"74\n", 0x50, 0x4A, b"");
     let stopped = [0x88, 0x80, 0x80, 0x80, 0x80, 0xB8];
     answer(
@@ -17,45 +40,9 @@ fn main() {
     let paper = [0x80, 0x80, 0xC0, 0x80, 0x80, 0xB8];
     answer(b"153, answer\n", 0xCB, 0x99, b"", paper);
     command(b"79\n", 0xCC, 0x4F, b"010118,311219");
-    let inside = [
-        0x01,
-        0x24,
-        0x50,
-        0x01,
-        0x24,
-        0x50,
-        0x4A,
-        0x05,
-        0x30,
-        0x30,
-        0x3C,
-        0x33,
-        0x03,
-    ];
-    tell(
-        b"01h inside a frame: ",
-        reader::listen(Kind::Command, &inside),
-    );
-    let behind = [
-        0x01,
-        0x01,
-        0x24,
-        0x50,
-        0x4A,
-        0x05,
-        0x30,
-        0x30,
-        0x3C,
-        0x33,
-        0x03,
-    ];
-    tell(
-        b"01h directly after 01h: ",
-        reader::listen(Kind::Command, &behind),
-    );
-    io::write_all(STDOUT_FILENO, b"BCC of 12ABh and 1AE3h\n");
-    show(&wire::suit::bcc_bytes(0x12AB));
-    show(&wire::suit::bcc_bytes(0x1AE3));
+}
+
+fn refused() {
     io::write_all(
         STDOUT_FILENO,
         b"not to be sent: CMD 1Fh, data 1Fh, status 7Fh\n",
