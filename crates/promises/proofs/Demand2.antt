@@ -31,7 +31,7 @@ use Rattle.till.specs.declared.Word.the-variants.{Waiting, Answered}
 use Rattle.till.proofs.Frames.{answer-heard}
 use Rattle.promises.specs.Demand2.{readIn, entriesOf, booksAfter}
 use Rattle.promises.proofs.Joining.{books-told, recording-reached, deed-reached}
-use Rattle.promises.proofs.Priced.{Good, parsed-good}
+use Rattle.promises.proofs.Verdicts.{Right, syntax, no-kind, is-read, parsed-right, right-priced}
 
 -- "built and read alike": the frame of whatever can be sent, read from any place, is heard as exactly that
 pub what-is-built-is-read : (k : Kind) (m : Message) → sendable k m ≡ true → (p : Place)
@@ -82,9 +82,9 @@ pub every-field-fits : (bytes : List ℕ) → InDigits (booksAfter bytes)
 every-field-fits bytes = subst InDigits (sym (books-told bytes)) (every-history-fits (readIn (recording bytes .carried)))
 
 pub rest-and-change-fit-too : (bytes : List ℕ) (code : ℕ) (content : List ℕ) → leftOf (deedFor (booksAfter bytes) (parsedOf code content) .shown) < 10 ^ 10
-rest-and-change-fit-too bytes code content = go (parsedOf code content) (parsed-good code content)
+rest-and-change-fit-too bytes code content = go (parsedOf code content) (parsed-right code content)
   where
-    go : (x : Parsed) → Good x → leftOf (deedFor (booksAfter bytes) x .shown) < 10 ^ 10
-    go (Read c) e = rest-and-change-fit (booksAfter bytes) c (recording-reached bytes) e
-    go Syntax e = omega arith
-    go Unknown e = omega arith
+    go : (x : Parsed) → Right x → leftOf (deedFor (booksAfter bytes) x .shown) < 10 ^ 10
+    go (Read c) (is-read r) = rest-and-change-fit (booksAfter bytes) c (recording-reached bytes) (right-priced c r)
+    go Syntax syntax = omega arith
+    go Unknown no-kind = omega arith

@@ -3,6 +3,5 @@ pub mod Demand1
 pub mod Coded
 pub mod Rows
 pub mod Joining
-pub mod Priced
 pub mod Demand2
 pub mod Demand3

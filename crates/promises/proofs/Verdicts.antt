@@ -46,19 +46,20 @@ use Rattle.books.specs.Groups.{at}
 use Rattle.books.specs.Rates.{rateOf, isEnabled}
 use Rattle.books.specs.Sound.{inTwelve, sound}
 use Rattle.books.specs.declared.Books.{Books}
+use Rattle.history.specs.Digits.{isPrice, priced}
 use Rattle.deeds.specs.Deeds.{refusedWith, judged, full, isRight, soldAs, registerOf, paidAs, cancelledAs, deedOf}
 use Rattle.deeds.specs.declared.Deed.{Deed}
 use Rattle.device.specs.Carrying.{deedFor}
 
--- what was read: a sale with numbers of its fields, or another kind
-abbrev RightKind : Command → Type 0
+-- what was read: a sale with numbers of its fields, a payment whose amount is a PRICE, or another kind
+abbrev pub RightKind : Command → Type 0
 RightKind OpenText = Unit {0}
 RightKind CloseText = Unit {0}
 RightKind PrintText = Unit {0}
 RightKind (Open op p till) = Unit {0}
 RightKind (Sell s) = fits s ≡ true
 RightKind (Subtotal print show) = Unit {0}
-RightKind (Pay p) = Unit {0}
+RightKind (Pay p) = isPrice (p .tender) ≡ true
 RightKind Close = Unit {0}
 RightKind Cancel = Unit {0}
 RightKind (Sums taxes) = Unit {0}
@@ -67,7 +68,7 @@ RightKind (Drawer s) = Unit {0}
 RightKind Status = Unit {0}
 RightKind Rates = Unit {0}
 
-data Right : Parsed → Type 0 where
+pub data Right : Parsed → Type 0 where
   syntax : Right Syntax
   no-kind : Right Unknown
   is-read : {c : Command} → RightKind c → Right (Read c)
@@ -115,16 +116,25 @@ behind-right : (f : Found) (s : List ℕ) (next : List ℕ → Parsed) → ((r :
 behind-right (At n) s next k = k (drop n s)
 behind-right NotThere s next k = syntax
 
+above-zero : (r : Number) (n : ℕ) → aboveZero r ≡ Is n → r ≡ Is n
+above-zero (Is m) n e = go (ltb 0 m) e
+  where
+    go : (some : Bool) → cond some (Is m) NotOne ≡ Is n → Is m ≡ Is n
+    go true e = e
+    go false e = let z : _≡_ {A = ℕ} 0 1 = cc in absurd (omega arith)
+above-zero NotOne n e = e
+
 tender-right : (mode : Mode) (s : List ℕ) → Right (tenderOf mode s)
-tender-right mode [] = is-read tt
-tender-right mode (b ∷ s) = given-right (aboveZero (priceOf (b ∷ s))) _ (λ n e. is-read tt)
+tender-right mode [] = is-read refl
+tender-right mode (b ∷ s) =
+    given-right (aboveZero (priceOf (b ∷ s))) _ (λ n e. is-read (lt-ltb n 10000000000 (price-small (b ∷ s) n (above-zero (priceOf (b ∷ s)) n e))))
 
 paid-right : (s : List ℕ) → Right (paidOf s)
-paid-right [] = is-read tt
+paid-right [] = is-read refl
 paid-right (b ∷ s) = either (isMode b) _ _ (tender-right (modeOf b) s) (tender-right Cash (b ∷ s))
 
 pay-right : (s : List ℕ) → Right (payOf s)
-pay-right [] = is-read tt
+pay-right [] = is-read refl
 pay-right (b ∷ s) = behind-right (restOf (b ∷ s)) (b ∷ s) paidOf paid-right
 
 -- 49: group, price, quantity and what follows
@@ -193,7 +203,7 @@ behind-tab-right : (s : List ℕ) → Right (behindTabOf s)
 behind-tab-right [] = syntax
 behind-tab-right (g ∷ s) = given-right (groupOf g) _ (λ group e. sold-right group (group-small g group e) s)
 
-parsed-right : (code : ℕ) (s : List ℕ) → Right (parsedOf code s)
+pub parsed-right : (code : ℕ) (s : List ℕ) → Right (parsedOf code s)
 parsed-right code s =
     either (eqb code 38) _ _ (bare OpenText s tt)
     (either (eqb code 39) _ _ (bare CloseText s tt)
@@ -209,6 +219,23 @@ parsed-right code s =
     (either (eqb code 70) _ _ (drawer-right s)
     (either (eqb code 74) _ _ (bare Status s tt)
     (either (eqb code 97) _ _ (bare Rates s tt) no-kind)))))))))))))
+
+-- so the amount given in a 53 is a PRICE
+pub right-priced : (c : Command) → RightKind c → priced c ≡ true
+right-priced OpenText r = refl
+right-priced CloseText r = refl
+right-priced PrintText r = refl
+right-priced (Open op p till) r = refl
+right-priced (Sell s) r = refl
+right-priced (Subtotal print show) r = refl
+right-priced (Pay p) r = r
+right-priced Close r = refl
+right-priced Cancel r = refl
+right-priced (Sums taxes) r = refl
+right-priced (Closing clear) r = refl
+right-priced (Drawer s) r = refl
+right-priced Status r = refl
+right-priced Rates r = refl
 
 -- done, or refused with 3 or 4
 pub data Asked (b : Books) : Deed → Type 0 where
