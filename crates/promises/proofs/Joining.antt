@@ -19,7 +19,7 @@ use Rattle.deeds.specs.Deeds.{carriedOut}
 use Rattle.history.specs.Entries.{Past, entryOf, carriedOn, historyOf, fresh}
 use Rattle.history.specs.Reached.{Reached}
 use Rattle.history.proofs.Reaching.{reached-stays, every-history-reached}
-use Rattle.promises.specs.Demand2.{readAs, readIn, booksAfter}
+use Rattle.promises.specs.Demand2.{withRead, readIn, booksAfter}
 
 module _ {B : Type 0} (work : B → Message → Carried B) where
   carry-append : (b : B) (ms ns : List Message) → carryAll work b (ms ++ ns) ≡ carryAll work (carryAll work b ms) ns
@@ -58,7 +58,7 @@ module _ {B : Type 0} (work : B → Message → Carried B) where
 
 -- the real commands: those that were read, in order
 one-read : (p : Past) (x : Parsed) (ms : List Message) → ((q : Past) → carryAll carry (q .books) ms ≡ carriedOn q (readIn ms) .books)
-    → carryAll carry (deedFor (p .books) x .books) ms ≡ carriedOn p (readAs x (readIn ms)) .books
+    → carryAll carry (deedFor (p .books) x .books) ms ≡ carriedOn p (withRead x (readIn ms)) .books
 one-read p (Read c) ms rest = rest (record { entries = entryOf c (carriedOut (p .books) c) ∷ p .entries; books = carriedOut (p .books) c .books })
 one-read p Syntax ms rest = rest p
 one-read p Unknown ms rest = rest p

@@ -12,14 +12,14 @@ use Rattle.history.specs.Entries.{Entry, historyOf}
 use Rattle.device.specs.Recording.{recording}
 
 -- the commands among the frames carried out; syntax (1) and unknown commands (2) are none
-abbrev pub readAs : Parsed → List Command → List Command
-readAs (Read c) cs = c ∷ cs
-readAs Syntax cs = cs
-readAs Unknown cs = cs
+abbrev pub withRead : Parsed → List Command → List Command
+withRead (Read c) cs = c ∷ cs
+withRead Syntax cs = cs
+withRead Unknown cs = cs
 
 abbrev pub readIn : List Message → List Command
 readIn [] = []
-readIn (m ∷ ms) = readAs (parsedOf (m .code) (m .content)) (readIn ms)
+readIn (m ∷ ms) = withRead (parsedOf (m .code) (m .content)) (readIn ms)
 
 -- what a recording carried out, with the replies
 abbrev pub entriesOf : List ℕ → List Entry
