@@ -25,7 +25,7 @@ pub record Mark : Type 0 where
   pub seq : ℕ
   pub code : ℕ
 
--- each case has its number in document 01
+-- each case has its number in document 01, or that of its request
 pub data Case : Type 0 where
   -- this command is these bytes
   built : (number : ℕ) (command : Message) (sent : List ℕ) → Case

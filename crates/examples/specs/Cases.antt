@@ -1,8 +1,10 @@
--- Document 01, "Examples; those marked (P) are proved": the table. SEQ is hexadecimal, CMD decimal, as there.
+-- Document 01, "Examples; those marked (P) are proved": the table, and behind it what later requests ask to see. SEQ is hexadecimal, CMD
+-- decimal, as there.
 use Prim.Native.Nat.{ℕ}
-use mathlib.Core.List.{List, [], _∷_}
-use Rattle.wire.specs.Frame.{commandOf, frame}
-use Rattle.wire.specs.declared.Kind.the-variants.{Command}
+use mathlib.Core.List.{List, [], _∷_, _++_}
+use lib.ListN.{set}
+use Rattle.wire.specs.Frame.{commandOf, answerOf, frame}
+use Rattle.wire.specs.declared.Kind.the-variants.{Command, Answer}
 use Rattle.examples.specs.Case.{Case, built, talk, Exchange, asks, bytes, endsIn, marked}
 
 abbrev pub NAK : List ℕ
@@ -27,6 +29,13 @@ abbrev pub answer74 : List ℕ
 answer74 =
     0x01 ∷ 0x31 ∷ 0x20 ∷ 0x4A ∷ 0x80 ∷ 0x80 ∷ 0x80 ∷ 0x80 ∷ 0x86 ∷ 0x9A ∷ 0x04
     ∷ 0x80 ∷ 0x80 ∷ 0x80 ∷ 0x80 ∷ 0x86 ∷ 0x9A ∷ 0x05 ∷ 0x30 ∷ 0x36 ∷ 0x3E ∷ 0x34 ∷ 0x03 ∷ []
+
+-- 70, SEQ 20h, five leva in: all but the last byte, the first one as given; and the answer on a fresh device
+abbrev pub lacking70 : ℕ → List ℕ
+lacking70 first = first ∷ 0x25 ∷ 0x20 ∷ 0x46 ∷ 0x35 ∷ 0x05 ∷ 0x30 ∷ 0x30 ∷ 0x3C ∷ 0x35 ∷ []
+
+abbrev pub answer70 : List ℕ
+answer70 = frame Answer (answerOf 0x20 70 (bytes "P,000000000500,000000000500,000000000000") idle)
 
 abbrev pub opens : Exchange
 opens = asks 0x20 48 "1,0000,1" "0001,0001" fiscal
@@ -86,4 +95,14 @@ cases =
     ∷ asks 0x22 51 "00" "0000001200,0000000000,0000001200,0000000000,0000000000,0000000000,0000000000,0000000000,0000000000" fiscal
     ∷ [])
     (marked 0x20 48 ∷ marked 0x21 49 ∷ marked 0x22 51 ∷ [])
+    -- Request 2026-11, "the try that lacks only its last byte when the next one's first byte has become 03h": of the same command, which is
+    -- then carried out, and of the next one, when it is a repeat. The five leva are in the drawer once.
+    ∷ talk 202611
+    (record { hears = lacking70 0x01; gives = [] }
+    ∷ record { hears = lacking70 0x03 ++ 0x03 ∷ []; gives = answer70 }
+    ∷ record { hears = lacking70 0x01; gives = [] }
+    ∷ record { hears = set (frame Command (commandOf 0x21 70 [])) 0 0x03; gives = answer70 }
+    ∷ asks 0x21 70 "" "P,000000000500,000000000500,000000000000" idle
+    ∷ [])
+    (marked 0x20 70 ∷ marked 0x21 70 ∷ [])
     ∷ []

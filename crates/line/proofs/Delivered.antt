@@ -1,123 +1,240 @@
--- The theorem of demand 3: the list that was sent is the list that is carried out, each command once and in order.
+-- The theorem of demand 3: the list that was sent is the list that is carried out, each command once and in order; and what each try brings.
 use mathlib.Core.Path.{_≡_, refl, sym, ap, _∙_, subst}
-use mathlib.Core.Bool.{true, false, cond, not, _&&_, false≢true}
-use mathlib.Core.Logic.{inl}
-use mathlib.Core.List.{List, [], _∷_, _++_}
-use Prim.Native.Nat.{ℕ}
+use mathlib.Core.Bool.{Bool, true, false, cond, not, _&&_, _||_, false≢true}
+use mathlib.Core.Logic.{_⊎_, ⊎-elim, inl, inr}
+use mathlib.Core.List.{List, [], _∷_, _++_, append-nil}
+use Prim.Native.Nat.{ℕ, zero, suc, _+_}
 use lib.Dec.{ltb, eqb}
-use lib.ListN.{length, getD}
-use borrow.Author.Tests.{ltb-true, eqb-false, eq-eqb, not-true}
+use lib.ListN.{length}
+use borrow.Author.Tests.{eq-eqb, not-true}
 use Rattle.wire.specs.Frame.{Message, frame, sendable}
 use Rattle.wire.specs.declared.Kind.the-variants.{Command}
 use Rattle.wire.proofs.Suits.{both}
-use Rattle.reader.specs.Reading.{Place, outside}
-use Rattle.line.specs.Turns.{Before, none, was, State, Carried, Turn, Session, switchedOn, repeats, onWhole, session}
-use Rattle.line.specs.Delivery.{Arrival, whole, replaced, isWhole, mayArrive, arriving, Sent, all, any, tried, differsFrom, delivery, commands, triesArriving, allArriving, Answered, carryAll, TriesAnswered, AllAnswered}
-use Rattle.line.proofs.Lists.{OneOff, off-set}
-use Rattle.line.proofs.Hearing.{Between, between-start}
-use Rattle.line.proofs.Damaged.{lost}
-use Rattle.line.proofs.Sessions.{device, alone, session-append, unheard, whole-try}
+use Rattle.reader.specs.Reading.{Event, nothing, brokenFrame, heard, run}
+use Rattle.line.specs.Turns.{Before, none, was, State, Carried, Turn, Session, switchedOn, repeats, lastAnswer, session}
+use Rattle.tries.specs.Tries.{Arrival, whole, replaced, cut, mayArrive, arriving, Begun, clear, begun, leaves, startBrings, lostStartBrings, damageBrings, brings}
+use Rattle.line.specs.Delivery.{isWhole, Sent, all, any, tried, differ, differsFrom, delivery, commands, triesArriving, allArriving, triesLeave, given, hears, carriedIn, carryAll, TriesBring, AllBring}
+use Rattle.tries.specs.TryRead.{news, standsAt, Fits}
+use Rattle.tries.proofs.Trying.{try-read}
+use Rattle.line.proofs.Sessions.{device, Reaction, endingAt, behind, session-append, session-news, frame-again, frame-new, reacts}
 
--- the tests of a damaged try say that it differs from its frame in exactly one place
-differs-once : (sent : List ℕ) (at byte : ℕ) → mayArrive sent (replaced at byte) ≡ true → OneOff sent (arriving sent (replaced at byte))
-differs-once sent at byte e =
-    let two = both (ltb at (length sent)) (not (eqb byte (getD sent at 0))) e in
-    off-set sent at byte (ltb-true at (length sent) (two .0)) (eqb-false byte (getD sent at 0) (not-true (eqb byte (getD sent at 0)) (two .1)))
+-- a command is its own repeat
+same : (m : Message) → eqb (m .seq) (m .seq) && eqb (m .code) (m .code) ≡ true
+same m = rw (eq-eqb (m .seq) (m .seq) refl, eq-eqb (m .code) (m .code) refl)
+
+or-false : (d : Bool) → d || false ≡ d
+or-false true = refl
+or-false false = refl
+
+or-then : (d r : Bool) → (d || true) || r ≡ true
+or-then true r = refl
+or-then false r = refl
+
+or-more : (d h r : Bool) → d || r ≡ true → (d || h) || r ≡ true
+or-more true h r e = refl
+or-more false true r e = refl
+or-more false false r e = e
+
+-- with one try or with the others, but once
+once : (m : Message) (d h : Bool) → carriedIn m d h ++ carriedIn m (d || h) true ≡ carriedIn m d true
+once m true h = refl
+once m false true = refl
+once m false false = refl
 
 module _ {B : Type 0} (carry : B → Message → Carried B) where
-  -- what the tries of one command bring to a device: the commands carried out, and the device behind them
-  record Outcome (s : State B) (sent answer : List ℕ) (tries : List Arrival) (ms : List Message) (before : Before) (books : B) : Type 0 where
-    place : Place
-    between : Between place
-    carried : session carry s (triesArriving sent tries) .carried ≡ ms
-    state : session carry s (triesArriving sent tries) .state ≡ device place before books
-    answered : TriesAnswered carry s sent answer tries
+  -- any try, at any device: what it brings, answered
+  pub any-try : (m : Message) → sendable Command m ≡ true → (a : Arrival) → mayArrive (frame Command m) a ≡ true → (b : Begun) → Fits Command b → (before : Before) (books : B)
+      → session carry (device (standsAt Command b) before books) (arriving (frame Command m) a)
+      ≡ endingAt (standsAt Command (leaves Command b m a)) (reacts carry before books (brings Command b m a))
+  any-try m can a e b f before books =
+      let r = try-read Command m can a e b f in
+      let bytes = arriving (frame Command m) a in
+      let heard-so : Reaction B = reacts carry before books (news (run Command (standsAt Command b) bytes .events)) in
+      session-news carry bytes (standsAt Command b) before books
+      ∙ ap (λ p. endingAt p heard-so) (r .place-is)
+      ∙ ap (λ es. endingAt (standsAt Command (leaves Command b m a)) (reacts carry before books es)) (r .news-are)
 
-  -- one try, and the others
-  outcome-cons : (s next : State B) (sent answer : List ℕ) (a : Arrival) (rest : List Arrival) (ms ns : List Message) (before : Before) (books : B)
-      → session carry s (arriving sent a) .carried ≡ ms → session carry s (arriving sent a) .state ≡ next → Answered answer a (session carry s (arriving sent a) .gives)
-      → Outcome next sent answer rest ns before books → Outcome s sent answer (a ∷ rest) (ms ++ ns) before books
-  outcome-cons s next sent answer a rest ms ns before books ec es given o =
-      let parts = session-append carry s (arriving sent a) (triesArriving sent rest) in
-      record {
-        place = o .place;
-        between = o .between;
-        carried = ap (λ (z : Session B). z .carried) parts
-            ∙ ap (λ c. c ++ session carry (session carry s (arriving sent a) .state) (triesArriving sent rest) .carried) ec
-            ∙ ap (λ (z : State B). ms ++ session carry z (triesArriving sent rest) .carried) es
-            ∙ ap (λ c. ms ++ c) (o .carried);
-        state = ap (λ (z : Session B). z .state) parts ∙ ap (λ (z : State B). session carry z (triesArriving sent rest) .state) es ∙ o .state;
-        answered = (given, subst (λ (z : State B). TriesAnswered carry z sent answer rest) (sym es) (o .answered));
-      }
-
-  -- one command, from the books it finds
-  module _ (m : Message) (can : sendable Command m ≡ true) (books : B) where
-    abbrev sent : List ℕ
-    sent = frame Command m
-
+  -- one command, from the frame before and the books that it finds; `done` says whether it was carried out
+  module _ (m : Message) (can : sendable Command m ≡ true) (first : Before) (new : repeats first m ≡ false) (books : B) where
     abbrev answer : List ℕ
     answer = carry books m .answer
 
-    abbrev done : Before
-    done = was (m .seq) (m .code) answer
+    abbrev beforeAt : Bool → Before
+    beforeAt false = first
+    beforeAt true = was (m .seq) (m .code) answer
 
-    abbrev after : B
-    after = carry books m .books
+    abbrev booksAt : Bool → B
+    booksAt false = books
+    booksAt true = carry books m .books
 
-    -- a damaged try changes nothing but the reading place
-    damaged : (p : Place) → Between p → (before : Before) (b : B) (at byte : ℕ) (rest : List Arrival) (ns : List Message)
-        → mayArrive sent (replaced at byte) ≡ true
-        → ((q : Place) → Between q → Outcome (device q before b) sent answer rest ns done after)
-        → Outcome (device p before b) sent answer (replaced at byte ∷ rest) ns done after
-    damaged p h before b at byte rest ns e others =
-        let gone = lost m can p h (arriving sent (replaced at byte)) (differs-once sent at byte e) in
-        let u = unheard carry (arriving sent (replaced at byte)) (device p before b) (gone .0) in
-        outcome-cons (device p before b) _ sent answer (replaced at byte) rest [] ns done after (u .carried) (u .state) (u .naks) (others _ (gone .1))
+    -- a frame that may be heard: the command's own, or, as long as that was not, the one before once more
+    record Older (done : Bool) (n : Message) : Type 0 where
+      not-yet : done ≡ false
+      other : differ n m ≡ true
+      again : repeats first n ≡ true
 
-    -- a whole try, by whether it is a repeat
-    given-whole : (p : Place) → Between p → (before : Before) (b : B) (rest : List Arrival) (t : Turn B) (ns : List Message)
-        → onWhole carry (device p before b) outside m ≡ t → t .gives ≡ answer → t .state ≡ device outside done after
-        → Outcome (device outside done after) sent answer rest ns done after
-        → Outcome (device p before b) sent answer (whole ∷ rest) (t .carried ++ ns) done after
-    given-whole p h before b rest t ns e gives state others =
-        let is = whole-try carry m can p before b (between-start p h) ∙ ap alone e in
-        outcome-cons (device p before b) (device outside done after) sent answer whole rest (t .carried) ns done after
-        (ap (λ (z : Session B). z .carried) is)
-        (ap (λ (z : Session B). z .state) is ∙ state)
-        (ap (λ (z : Session B). z .gives) is ∙ gives)
-        others
+    abbrev Known : Bool → List Event → Type 0
+    Known done [] = Unit {0}
+    Known done (nothing ∷ es) = Known done es
+    Known done (brokenFrame ∷ es) = Known done es
+    Known done (heard n ∷ es) = ((n ≡ m) × Known true es) ⊎ (Older done n × Known done es)
 
-    is-repeat : repeats done m ≡ true
-    is-repeat = rw (eq-eqb (m .seq) (m .seq) refl, eq-eqb (m .code) (m .code) refl)
+    -- what such events bring
+    abbrev Told : Bool → List Event → Reaction B
+    Told done es = record {
+      gives = given m (lastAnswer first) answer es;
+      carried = carriedIn m done (hears m es);
+      before = beforeAt (done || hears m es);
+      books = booksAt (done || hears m es);
+    }
 
-    -- behind the first whole try: every other is a repeat
-    tries-after : (tries : List Arrival) → all (mayArrive sent) tries ≡ true → (p : Place) → Between p → Outcome (device p done after) sent answer tries [] done after
-    tries-after [] e p h = record { place = p; between = h; carried = refl; state = refl; answered = tt }
-    tries-after (whole ∷ rest) e p h =
-        given-whole p h done after rest _ []
-        (ap (λ r. cond r
-        (record { number = 6; gives = answer; carried = []; state = device outside done after })
-        (record {
-          number = carry after m .number;
-          gives = carry after m .answer;
-          carried = m ∷ [];
-          state = device outside (was (m .seq) (m .code) (carry after m .answer)) (carry after m .books);
-        })) is-repeat)
-        refl refl (tries-after rest e outside (inl refl))
-    tries-after (replaced at byte ∷ rest) e p h =
-        let two = both (mayArrive sent (replaced at byte)) (all (mayArrive sent) rest) e in
-        damaged p h done after at byte rest [] (two .0) (tries-after rest (two .1))
+    abbrev heardThen : Before → B → Message → List Event → Reaction B
+    heardThen before b n es = reacts carry before b (heard n ∷ es)
 
-    -- from the first try on
-    tries-first : (tries : List Arrival) → all (mayArrive sent) tries ≡ true → any isWhole tries ≡ true → (p : Place) → Between p → (before : Before) → repeats before m ≡ false
-        → Outcome (device p before books) sent answer tries (m ∷ []) done after
-    tries-first [] e some p h before new = absurd (false≢true some)
-    tries-first (whole ∷ rest) e some p h before new =
-        given-whole p h before books rest (record { number = carry books m .number; gives = answer; carried = m ∷ []; state = device outside done after }) []
-        (rw new) refl refl (tries-after rest e outside (inl refl))
-    tries-first (replaced at byte ∷ rest) e some p h before new =
-        let two = both (mayArrive sent (replaced at byte)) (all (mayArrive sent) rest) e in
-        damaged p h before books at byte rest (m ∷ []) (two .0) (λ q hq. tries-first rest (two .1) some q hq before new)
+    -- the command itself is heard: carried out, or answered again
+    own : (done : Bool) (es : List Event) → reacts carry (beforeAt true) (booksAt true) es ≡ Told true es → heardThen (beforeAt done) (booksAt done) m es ≡ Told done (heard m ∷ es)
+    own true es rest =
+        ap (λ (t : Turn B). behind (t .gives) (t .carried) (reacts carry (t .state .before) (t .state .books) es)) (frame-again carry (beforeAt true) (booksAt true) m (same m))
+        ∙ ap (behind answer []) rest
+        ∙ ap (λ z. record { gives = cond (not z) (lastAnswer first) answer ++ given m (lastAnswer first) answer es; carried = []; before = beforeAt true; books = booksAt true }) (sym (same m))
+    own false es rest =
+        ap (λ (t : Turn B). behind (t .gives) (t .carried) (reacts carry (t .state .before) (t .state .books) es)) (frame-new carry first books m new)
+        ∙ ap (behind answer (m ∷ [])) rest
+        ∙ ap (λ z. record {
+          gives = cond (not z) (lastAnswer first) answer ++ given m (lastAnswer first) answer es;
+          carried = carriedIn m false (not (not z) || hears m es);
+          before = beforeAt (not (not z) || hears m es);
+          books = booksAt (not (not z) || hears m es);
+        }) (sym (same m))
+
+    -- the frame before is heard once more
+    older : (done : Bool) (n : Message) (es : List Event) → Older done n → reacts carry (beforeAt done) (booksAt done) es ≡ Told done es
+        → heardThen (beforeAt done) (booksAt done) n es ≡ Told done (heard n ∷ es)
+    older true n es o rest = absurd (false≢true (sym (o .not-yet)))
+    older false n es o rest =
+        ap (λ (t : Turn B). behind (t .gives) (t .carried) (reacts carry (t .state .before) (t .state .books) es)) (frame-again carry first books n (o .again))
+        ∙ ap (behind (lastAnswer first) []) rest
+        ∙ ap (λ z. record {
+          gives = cond z (lastAnswer first) answer ++ given m (lastAnswer first) answer es;
+          carried = carriedIn m false (not z || hears m es);
+          before = beforeAt (not z || hears m es);
+          books = booksAt (not z || hears m es);
+        }) (sym (o .other))
+
+    reacting : (es : List Event) (done : Bool) → Known done es → reacts carry (beforeAt done) (booksAt done) es ≡ Told done es
+    reacting [] true h = refl
+    reacting [] false h = refl
+    reacting (nothing ∷ es) done h = reacting es done h
+    reacting (brokenFrame ∷ es) done h = ap (behind (0x15 ∷ []) []) (reacting es done h)
+    reacting (heard n ∷ es) done h =
+        ⊎-elim
+        (λ c. subst (λ z. heardThen (beforeAt done) (booksAt done) z es ≡ Told done (heard z ∷ es)) (sym (c .0)) (own done es (reacting es true (c .1))))
+        (λ c. older done n es (c .0) (reacting es done (c .1)))
+        h
+
+    -- what stands begun is this command, or the one before
+    abbrev Ours : Bool → Begun → Type 0
+    Ours done clear = Unit {0}
+    Ours done (begun n count) = (n ≡ m) ⊎ Older done n
+
+    known-start : (b : Begun) (done : Bool) (es : List Event) → Known done es → Known done (startBrings b ++ es)
+    known-start clear done es h = h
+    known-start (begun n count) done es h = go (ltb 1 count)
+      where
+        go : (t : Bool) → Known done (cond t (brokenFrame ∷ []) [] ++ es)
+        go true = h
+        go false = h
+
+    known-lost : (byte : ℕ) (b : Begun) (done : Bool) → Ours done b → Known done (lostStartBrings Command b byte)
+    known-lost byte clear done h = tt
+    known-lost byte (begun n count) done h = go (eqb byte 0x03 && eqb (count + 1) (length (frame Command n)))
+      where
+        go : (t : Bool) → Known done (cond t (heard n ∷ []) (brokenFrame ∷ []))
+        go true = ⊎-elim (λ e. inl (e, tt)) (λ o. inr (o, tt)) h
+        go false = tt
+
+    known-damage : (size at byte : ℕ) (done : Bool) → Known done (damageBrings size at byte)
+    known-damage size at byte done = go (eqb byte 0x01 && (ltb 1 at && ltb (at + 1) size))
+      where
+        go : (t : Bool) → Known done (cond t (brokenFrame ∷ brokenFrame ∷ []) (brokenFrame ∷ []))
+        go true = tt
+        go false = tt
+
+    known : (a : Arrival) (b : Begun) (done : Bool) → Ours done b → Known done (brings Command b m a)
+    known whole b done h = known-start b done (heard m ∷ []) (inl (refl, tt))
+    known (replaced zero byte) b done h = known-lost byte b done h
+    known (replaced (suc i) byte) b done h = known-start b done _ (known-damage (length (frame Command m)) (suc i) byte done)
+    known (cut zero) b done h = tt
+    known (cut (suc c)) b done h = subst (Known done) (append-nil (startBrings b)) (known-start b done [] tt)
+
+    ours : (a : Arrival) (b : Begun) (done : Bool) → Ours done b → Ours (done || hears m (brings Command b m a)) (leaves Command b m a)
+    ours whole b done h = tt
+    ours (replaced at byte) b done h = go (eqb byte 0x01 && eqb (at + 1) (length (frame Command m)))
+      where
+        go : (t : Bool) → Ours (done || hears m (brings Command b m (replaced at byte))) (cond t (begun m 1) clear)
+        go true = inl refl
+        go false = tt
+    ours (cut zero) b done h = subst (λ d. Ours d b) (sym (or-false done)) h
+    ours (cut (suc c)) b done h = inl refl
+
+    -- the device between two tries
+    abbrev at : Begun → Bool → State B
+    at b done = device (standsAt Command b) (beforeAt done) (booksAt done)
+
+    one-try : (a : Arrival) → mayArrive (frame Command m) a ≡ true → (b : Begun) → Fits Command b → (done : Bool) → Ours done b
+        → session carry (at b done) (arriving (frame Command m) a) ≡ endingAt (standsAt Command (leaves Command b m a)) (Told done (brings Command b m a))
+    one-try a e b f done h =
+        any-try m can a e b f (beforeAt done) (booksAt done)
+        ∙ ap (endingAt (standsAt Command (leaves Command b m a))) (reacting (brings Command b m a) done (known a b done h))
+
+    -- a whole try is heard
+    hears-whole : (b : Begun) → hears m (brings Command b m whole) ≡ true
+    hears-whole clear = ap (λ z. not (not z) || false) (same m)
+    hears-whole (begun n count) = go (ltb 1 count)
+      where
+        go : (t : Bool) → hears m (cond t (brokenFrame ∷ []) [] ++ heard m ∷ []) ≡ true
+        go true = ap (λ z. not (not z) || false) (same m)
+        go false = ap (λ z. not (not z) || false) (same m)
+
+    still : (a : Arrival) (b : Begun) (done rest : Bool) → done || (isWhole a || rest) ≡ true → (done || hears m (brings Command b m a)) || rest ≡ true
+    still whole b done rest e = ap (λ h. (done || h) || rest) (hears-whole b) ∙ or-then done rest
+    still (replaced i byte) b done rest e = or-more done (hears m (brings Command b m (replaced i byte))) rest e
+    still (cut count) b done rest e = or-more done (hears m (brings Command b m (cut count))) rest e
+
+    -- all the tries, at least one whole
+    record Outcome (b : Begun) (done : Bool) (tries : List Arrival) : Type 0 where
+      carried : session carry (at b done) (triesArriving (frame Command m) tries) .carried ≡ carriedIn m done true
+      state : session carry (at b done) (triesArriving (frame Command m) tries) .state ≡ at (triesLeave b m tries) true
+      bring : TriesBring carry (at b done) b m done (lastAnswer first) answer tries
+      fits : Fits Command (triesLeave b m tries)
+      left : Ours true (triesLeave b m tries)
+
+    tries-bring : (tries : List Arrival) → all (mayArrive (frame Command m)) tries ≡ true → (b : Begun) → Fits Command b → (done : Bool) → Ours done b
+        → done || any isWhole tries ≡ true → Outcome b done tries
+    tries-bring [] e b f true h some = record { carried = refl; state = refl; bring = tt; fits = f; left = h }
+    tries-bring [] e b f false h some = absurd (false≢true some)
+    tries-bring (a ∷ rest) e b f done h some =
+        let sent = frame Command m in
+        let two = both (mayArrive sent a) (all (mayArrive sent) rest) e in
+        let brought : List Event = brings Command b m a in
+        let now = one-try a (two .0) b f done h in
+        let next = leaves Command b m a in
+        let o = tries-bring rest (two .1) next (try-read Command m can a (two .0) b f .fits) (done || hears m brought) (ours a b done h) (still a b done (any isWhole rest) some) in
+        let parts = session-append carry (at b done) (arriving sent a) (triesArriving sent rest) in
+        let state = ap (λ (z : Session B). z .state) now in
+        record {
+          carried = ap (λ (z : Session B). z .carried) parts
+              ∙ ap (λ (z : Session B). z .carried ++ session carry (z .state) (triesArriving sent rest) .carried) now
+              ∙ ap (λ ms. carriedIn m done (hears m brought) ++ ms) (o .carried)
+              ∙ once m done (hears m brought);
+          state = ap (λ (z : Session B). z .state) parts ∙ ap (λ (z : State B). session carry z (triesArriving sent rest) .state) state ∙ o .state;
+          bring = (
+            record { gives = ap (λ (z : Session B). z .gives) now; carried = ap (λ (z : Session B). z .carried) now },
+            subst (λ (z : State B). TriesBring carry z next m (done || hears m brought) (lastAnswer first) answer rest) (sym state) (o .bring),
+          );
+          fits = o .fits;
+          left = o .left;
+        }
 
   -- the first command is no repeat of the frame before
   abbrev New : Before → List Sent → Type 0
@@ -132,44 +249,69 @@ module _ {B : Type 0} (carry : B → Message → Carried B) where
   new-none [] = tt
   new-none (c ∷ cs) = refl
 
-  record Delivered (s : State B) (books : B) (cs : List Sent) : Type 0 where
+  -- what stands begun between two commands is the frame before
+  abbrev Left : Before → List Sent → Begun → Type 0
+  Left before cs clear = Unit {0}
+  Left before cs (begun n count) = (repeats before n ≡ true) × (differsFrom n cs ≡ true)
+
+  left-ours : (c : Sent) (cs : List Sent) (can : sendable Command (c .command) ≡ true) (before : Before) (new : repeats before (c .command) ≡ false) (books : B) (b : Begun)
+      → Left before (c ∷ cs) b → Ours (c .command) can before new books false b
+  left-ours c cs can before new books clear l = tt
+  left-ours c cs can before new books (begun n count) l = inr (record { not-yet = refl; other = l .1; again = l .0 })
+
+  ours-left : (m : Message) (can : sendable Command m ≡ true) (before : Before) (new : repeats before m ≡ false) (books : B) (cs : List Sent) → differsFrom m cs ≡ true → (b : Begun)
+      → Ours m can before new books true b → Left (was (m .seq) (m .code) (carry books m .answer)) cs b
+  ours-left m can before new books cs e clear o = tt
+  ours-left m can before new books cs e (begun n count) o =
+      ⊎-elim
+      (λ q. subst (λ z. Left (was (m .seq) (m .code) (carry books m .answer)) cs (begun z count)) (sym q) (same m, e))
+      (λ older. absurd (false≢true (sym (older .not-yet))))
+      o
+
+  record Delivered (s : State B) (b : Begun) (books : B) (last : List ℕ) (cs : List Sent) : Type 0 where
     carried : session carry s (allArriving cs) .carried ≡ commands cs
     books-after : session carry s (allArriving cs) .state .books ≡ carryAll carry books (commands cs)
-    answered : AllAnswered carry s books cs
+    bring : AllBring carry s b books last cs
 
-  delivered-from : (cs : List Sent) → delivery cs ≡ true → (p : Place) → Between p → (before : Before) → New before cs → (books : B) → Delivered (device p before books) books cs
-  delivered-from [] e p h before new books = record { carried = refl; books-after = refl; answered = tt }
-  delivered-from (c ∷ cs) e p h before new books =
+  delivered-from : (cs : List Sent) → delivery cs ≡ true → (before : Before) → New before cs → (b : Begun) → Fits Command b → Left before cs b → (books : B)
+      → Delivered (device (standsAt Command b) before books) b books (lastAnswer before) cs
+  delivered-from [] e before new b f l books = record { carried = refl; books-after = refl; bring = tt }
+  delivered-from (c ∷ cs) e before new b f l books =
       let m = c .command in
       let sent = frame Command m in
       let two = both (tried c && differsFrom m cs) (delivery cs) e in
       let own = both (tried c) (differsFrom m cs) (two .0) in
       let may = both (sendable Command m && all (mayArrive sent) (c .tries)) (any isWhole (c .tries)) (own .0) in
       let can = both (sendable Command m) (all (mayArrive sent) (c .tries)) (may .0) in
-      let o = tries-first m (can .0) books (c .tries) (can .1) (may .1) p h before new in
-      let rest = delivered-from cs (two .1) (o .place) (o .between) (was (m .seq) (m .code) (carry books m .answer)) (new-next m (carry books m .answer) cs (own .1)) (carry books m .books) in
+      let o = tries-bring m (can .0) before new books (c .tries) (can .1) b f false (left-ours c cs (can .0) before new books b l) (may .1) in
+      let answer = carry books m .answer in
+      let next = triesLeave b m (c .tries) in
+      let rest = delivered-from cs (two .1) (was (m .seq) (m .code) answer) (new-next m answer cs (own .1)) next (o .fits)
+          (ours-left m (can .0) before new books cs (own .1) next (o .left)) (carry books m .books) in
+      let s : State B = device (standsAt Command b) before books in
       let bytes = triesArriving sent (c .tries) in
-      let parts = session-append carry (device p before books) bytes (allArriving cs) in
+      let parts = session-append carry s bytes (allArriving cs) in
       record {
         carried = ap (λ (z : Session B). z .carried) parts
-            ∙ ap (λ l. l ++ session carry (session carry (device p before books) bytes .state) (allArriving cs) .carried) (o .carried)
+            ∙ ap (λ ms. ms ++ session carry (session carry s bytes .state) (allArriving cs) .carried) (o .carried)
             ∙ ap (λ (z : State B). m ∷ session carry z (allArriving cs) .carried) (o .state)
-            ∙ ap (λ l. m ∷ l) (rest .carried);
+            ∙ ap (λ ms. m ∷ ms) (rest .carried);
         books-after = ap (λ (z : Session B). z .state .books) parts ∙ ap (λ (z : State B). session carry z (allArriving cs) .state .books) (o .state) ∙ rest .books-after;
-        answered = (o .answered, subst (λ (z : State B). AllAnswered carry z (carry books m .books) cs) (sym (o .state)) (rest .answered));
+        bring = (o .bring, subst (λ (z : State B). AllBring carry z next (carry books m .books) answer cs) (sym (o .state)) (rest .bring));
       }
+
+  delivered : (cs : List Sent) → delivery cs ≡ true → (books : B) → Delivered (switchedOn books) clear books [] cs
+  delivered cs e books = delivered-from cs e none (new-none cs) clear tt tt books
 
   -- "Then the device carries out that very list, each command once and in order."
   pub carries-out-that-very-list : (cs : List Sent) → delivery cs ≡ true → (books : B)
       → (session carry (switchedOn books) (allArriving cs) .carried ≡ commands cs)
       × (session carry (switchedOn books) (allArriving cs) .state .books ≡ carryAll carry books (commands cs))
-  carries-out-that-very-list cs e books =
-      let d = delivered-from cs e outside (inl refl) none (new-none cs) books in
-      (d .carried, d .books-after)
+  carries-out-that-very-list cs e books = (delivered cs e books .carried, delivered cs e books .books-after)
 
-  -- every whole try is answered with the answer of that command at its turn, and a damaged one with NAK or nothing
-  pub answers-every-whole-try : (cs : List Sent) → delivery cs ≡ true → (books : B) → AllAnswered carry (switchedOn books) books cs
-  answers-every-whole-try cs e books = delivered-from cs e outside (inl refl) none (new-none cs) books .answered
+  -- what each try brings: the bytes given back, and with which try the command is carried out
+  pub brings-for-each-try : (cs : List Sent) → delivery cs ≡ true → (books : B) → AllBring carry (switchedOn books) clear books [] cs
+  brings-for-each-try cs e books = delivered cs e books .bring
 
 -- a device that does nothing but hear
 abbrev idle : Unit {0} → Message → Carried (Unit {0})

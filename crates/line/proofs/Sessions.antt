@@ -1,32 +1,32 @@
--- What the device makes of a run of bytes: silence, a broken frame, a whole try.
-use mathlib.Core.Path.{_≡_, refl, sym, ap, _∙_, subst}
-use mathlib.Core.Bool.{Bool, true}
-use mathlib.Core.List.{List, [], _∷_, _++_, append-assoc, append-nil, cons≢nil, head-eq-of-cons-eq, tail-eq-of-cons-eq}
-use Prim.Native.Nat.{ℕ, zero, suc, _+_}
-use lib.ListN.{length, replicate}
-use Rattle.wire.specs.Bytes.{every}
-use Rattle.wire.specs.Frame.{Message, frame, sendable}
-use Rattle.wire.specs.Places.{is}
+-- What the device makes of a run of bytes: its answers to what reading brings, one after the other.
+use mathlib.Core.Path.{_≡_, refl, sym, ap, _∙_}
+use mathlib.Core.Bool.{Bool, true, false, cond}
+use mathlib.Core.List.{List, [], _∷_, _++_, append-assoc}
+use Prim.Native.Nat.{ℕ}
+use Rattle.wire.specs.Frame.{Message}
 use Rattle.wire.specs.declared.Kind.the-variants.{Command}
-use Rattle.wire.proofs.Suits.{both}
-use Rattle.reader.specs.Reading.{Place, outside, inside, Event, nothing, brokenFrame, heard, read, startsAnew, run}
-use Rattle.line.specs.Turns.{Before, State, Carried, Turn, Session, onWhole, onEvent, turn, session}
-use Rattle.line.proofs.Hearing.{Silent, NoneHeard, after-03}
-use Rattle.line.proofs.Damaged.{start, heard-last}
-
-every-join : (t : ℕ → Bool) (xs ys : List ℕ) → every t xs ≡ true → every t ys ≡ true → every t (xs ++ ys) ≡ true
-every-join t [] ys e f = f
-every-join t (x ∷ xs) ys e f =
-    let two = both (t x) (every t xs) e in
-    rw (two .0) (every-join t xs ys (two .1) f)
+use Rattle.reader.specs.Reading.{Place, outside, Event, nothing, brokenFrame, heard, read, run}
+use Rattle.line.specs.Turns.{Before, was, State, Carried, Turn, Session, repeats, lastAnswer, onWhole, onEvent, turn, session}
+use Rattle.tries.specs.TryRead.{news}
 
 -- a device, part by part
 abbrev pub device : {B : Type 0} → Place → Before → B → State B
 device p before books = record { place = p; before = before; books = books }
 
--- what one byte brings, as what a session brings
-abbrev pub alone : {B : Type 0} → Turn B → Session B
-alone t = record { gives = t .gives; carried = t .carried; state = t .state }
+-- what events bring to a device, wherever it reads
+pub record Reaction (B : Type 0) : Type 0 where
+  pub gives : List ℕ
+  pub carried : List Message
+  pub before : Before
+  pub books : B
+
+-- a session that ends at this place
+abbrev pub endingAt : {B : Type 0} → Place → Reaction B → Session B
+endingAt p r = record { gives = r .gives; carried = r .carried; state = device p (r .before) (r .books) }
+
+-- one more before it
+abbrev pub behind : {B : Type 0} → List ℕ → List Message → Reaction B → Reaction B
+behind gives carried r = record { gives = gives ++ r .gives; carried = carried ++ r .carried; before = r .before; books = r .books }
 
 module _ {B : Type 0} (carry : B → Message → Carried B) where
   -- a session in two parts
@@ -47,71 +47,95 @@ module _ {B : Type 0} (carry : B → Message → Carried B) where
       ap (λ (z : Session B). record { gives = t .gives ++ z .gives; carried = t .carried ++ z .carried; state = z .state }) (session-append (t .state) xs ys)
       ∙ (λ i. record { gives = sym gives i; carried = sym carried i; state = second .state })
 
-  -- where nothing is heard, nothing is carried out, and NAK alone is given back
-  pub record Unheard (s : State B) (bs : List ℕ) : Type 0 where
-    pub carried : session carry s bs .carried ≡ []
-    pub naks : every (is 0x15) (session carry s bs .gives) ≡ true
-    pub state : session carry s bs .state ≡ device (run Command (s .place) bs .place) (s .before) (s .books)
+  -- a frame heard, by whether it is a repeat
+  abbrev pub onFrame : Before → B → Message → Turn B
+  onFrame before books m = onWhole carry (device outside before books) outside m
 
-  one-unheard : (s : State B) (next : Place) (e : Event) → Silent e
-      → (onEvent carry s next e .carried ≡ []) × (every (is 0x15) (onEvent carry s next e .gives) ≡ true) × (onEvent carry s next e .state ≡ device next (s .before) (s .books))
-  one-unheard s next nothing n = (refl, refl, refl)
-  one-unheard s next brokenFrame n = (refl, refl, refl)
-  one-unheard s next (heard m) n = absurd (n m refl)
+  pub frame-again : (before : Before) (books : B) (m : Message) → repeats before m ≡ true
+      → onFrame before books m ≡ record { number = 6; gives = lastAnswer before; carried = []; state = device outside before books }
+  frame-again before books m e = rw e
 
-  pub unheard : (bs : List ℕ) (s : State B) → NoneHeard (run Command (s .place) bs .events) → Unheard s bs
-  unheard [] s n = record { carried = refl; naks = refl; state = refl }
-  unheard (b ∷ bs) s n =
-      let next : Place = read Command (s .place) b .place in
-      let one = one-unheard s next (read Command (s .place) b .event) (n .0) in
-      let rest = unheard bs (device next (s .before) (s .books)) (n .1) in
-      let t = turn carry s b in
-      record {
-        carried = ap (λ c. c ++ session carry (t .state) bs .carried) (one .0) ∙ ap (λ (z : State B). session carry z bs .carried) (one .2) ∙ rest .carried;
-        naks = every-join (is 0x15) (t .gives) (session carry (t .state) bs .gives) (one .1)
-            (subst (λ (z : State B). every (is 0x15) (session carry z bs .gives) ≡ true) (sym (one .2)) (rest .naks));
-        state = ap (λ (z : State B). session carry z bs .state) (one .2) ∙ rest .state;
+  pub frame-new : (before : Before) (books : B) (m : Message) → repeats before m ≡ false
+      → onFrame before books m
+      ≡ record {
+        number = carry books m .number;
+        gives = carry books m .answer;
+        carried = m ∷ [];
+        state = device outside (was (m .seq) (m .code) (carry books m .answer)) (carry books m .books);
+      }
+  frame-new before books m e = rw e
+
+  abbrev pub reacts : Before → B → List Event → Reaction B
+  reacts before books [] = record { gives = []; carried = []; before = before; books = books }
+  reacts before books (nothing ∷ es) = reacts before books es
+  reacts before books (brokenFrame ∷ es) = behind (0x15 ∷ []) [] (reacts before books es)
+  reacts before books (heard m ∷ es) =
+      let t = onFrame before books m in
+      behind (t .gives) (t .carried) (reacts (t .state .before) (t .state .books) es)
+
+  reacts-news : (es : List Event) (before : Before) (books : B) → reacts before books (news es) ≡ reacts before books es
+  reacts-news [] before books = refl
+  reacts-news (nothing ∷ es) before books = reacts-news es before books
+  reacts-news (brokenFrame ∷ es) before books = ap (behind (0x15 ∷ []) []) (reacts-news es before books)
+  reacts-news (heard m ∷ es) before books =
+      let t = onFrame before books m in
+      ap (behind (t .gives) (t .carried)) (reacts-news es (t .state .before) (t .state .books))
+
+  -- where reading stands changes nothing of what a frame brings
+  pub frame-anywhere : (s : State B) (next : Place) (m : Message)
+      → onWhole carry s next m
+      ≡ (let t = onFrame (s .before) (s .books) m in
+      record { number = t .number; gives = t .gives; carried = t .carried; state = device next (t .state .before) (t .state .books) })
+  frame-anywhere s next m = go (repeats (s .before) m)
+    where
+      answer : List ℕ
+      answer = carry (s .books) m .answer
+
+      either : Bool → Place → Turn B
+      either r p =
+          cond r
+          (record { number = 6; gives = lastAnswer (s .before); carried = []; state = device p (s .before) (s .books) })
+          (record { number = carry (s .books) m .number; gives = answer; carried = m ∷ []; state = device p (was (m .seq) (m .code) answer) (carry (s .books) m .books) })
+
+      go : (r : Bool) → either r next
+          ≡ record { number = either r outside .number; gives = either r outside .gives; carried = either r outside .carried; state = device next (either r outside .state .before) (either r outside .state .books) }
+      go true = refl
+      go false = refl
+
+  -- the law: a session is what its events bring, and ends where reading stands
+  session-run : (bs : List ℕ) (s : State B)
+      → session carry s bs ≡ endingAt (run Command (s .place) bs .place) (reacts (s .before) (s .books) (run Command (s .place) bs .events))
+  session-run [] s = refl
+  session-run (b ∷ bs) s = go (read Command (s .place) b .event) (session-run bs)
+    where
+      next : Place
+      next = read Command (s .place) b .place
+
+      then : Turn B → Session B
+      then t = record {
+        gives = t .gives ++ session carry (t .state) bs .gives;
+        carried = t .carried ++ session carry (t .state) bs .carried;
+        state = session carry (t .state) bs .state;
       }
 
-  -- in silence nothing is given back
-  pub still : (bs : List ℕ) (s : State B) (n : ℕ) → run Command (s .place) bs .events ≡ replicate n nothing
-      → session carry s bs ≡ record { gives = []; carried = []; state = device (run Command (s .place) bs .place) (s .before) (s .books) }
-  still [] s n e = refl
-  still (b ∷ bs) s zero e = absurd (cons≢nil e)
-  still (b ∷ bs) s (suc n) e =
-      let next : Place = read Command (s .place) b .place in
-      ap (λ (v : Event). record {
-        gives = onEvent carry s next v .gives ++ session carry (onEvent carry s next v .state) bs .gives;
-        carried = onEvent carry s next v .carried ++ session carry (onEvent carry s next v .state) bs .carried;
-        state = session carry (onEvent carry s next v .state) bs .state;
-      }) (head-eq-of-cons-eq e)
-      ∙ still bs (device next (s .before) (s .books)) n (tail-eq-of-cons-eq e)
+      end : Place
+      end = run Command next bs .place
 
-  -- a whole try, where its 01h gives nothing
-  module _ (m : Message) (can : sendable Command m ≡ true) (p : Place) (before : Before) (books : B) (quiet : startsAnew p ≡ nothing) where
-    abbrev inner : Place
-    inner = run Command (inside 0 []) (start m can) .place
+      es : List Event
+      es = run Command next bs .events
 
-    silent : session carry (device p before books) (0x01 ∷ start m can) ≡ record { gives = []; carried = []; state = device inner before books }
-    silent =
-        still (0x01 ∷ start m can) (device p before books) (suc (length (m .content) + 8))
-        (ap (λ (e : Event). e ∷ run Command (inside 0 []) (start m can) .events) quiet ∙ ap (λ es. nothing ∷ es) (heard-last m can .0))
+      go : (e : Event) → ((z : State B) → session carry z bs ≡ endingAt (run Command (z .place) bs .place) (reacts (z .before) (z .books) (run Command (z .place) bs .events)))
+          → then (onEvent carry s next e) ≡ endingAt end (reacts (s .before) (s .books) (e ∷ es))
+      go nothing rest = rest (device next (s .before) (s .books))
+      go brokenFrame rest =
+          ap (λ (z : Session B). record { gives = 0x15 ∷ z .gives; carried = z .carried; state = z .state }) (rest (device next (s .before) (s .books)))
+      go (heard m) rest =
+          let t = onFrame (s .before) (s .books) m in
+          ap then (frame-anywhere s next m)
+          ∙ ap (λ (z : Session B). record { gives = t .gives ++ z .gives; carried = t .carried ++ z .carried; state = z .state }) (rest (device next (t .state .before) (t .state .books)))
 
-    last : session carry (device inner before books) (0x03 ∷ []) ≡ alone (onWhole carry (device p before books) outside m)
-    last =
-        let t : Turn B = onWhole carry (device p before books) outside m in
-        let is : turn carry (device inner before books) 0x03 ≡ t =
-        ap (λ z. onEvent carry (device inner before books) z (read Command inner 0x03 .event)) (after-03 inner)
-        ∙ ap (onEvent carry (device inner before books) outside) (heard-last m can .1) in
-        ap (λ (z : Turn B). record { gives = z .gives ++ []; carried = z .carried ++ []; state = z .state }) is
-        ∙ (λ i. record { gives = append-nil (t .gives) i; carried = append-nil (t .carried) i; state = t .state })
-
-    pub whole-try : session carry (device p before books) (frame Command m) ≡ alone (onWhole carry (device p before books) outside m)
-    whole-try =
-        session-append (device p before books) (0x01 ∷ start m can) (0x03 ∷ [])
-        ∙ ap (λ (z : Session B). record {
-          gives = z .gives ++ session carry (z .state) (0x03 ∷ []) .gives;
-          carried = z .carried ++ session carry (z .state) (0x03 ∷ []) .carried;
-          state = session carry (z .state) (0x03 ∷ []) .state;
-        }) silent
-        ∙ last
+  pub session-news : (bs : List ℕ) (p : Place) (before : Before) (books : B)
+      → session carry (device p before books) bs ≡ endingAt (run Command p bs .place) (reacts before books (news (run Command p bs .events)))
+  session-news bs p before books =
+      session-run bs (device p before books)
+      ∙ ap (endingAt (run Command p bs .place)) (sym (reacts-news (run Command p bs .events) before books))

@@ -1,37 +1,22 @@
--- Demand 3: "A fresh device, always lent its 217 bytes, hears a list of sendable commands, neighbours differing in sequence number or code.
--- Each is tried one or more times with one and the same frame; each try arrives whole or with exactly one byte replaced by another, at least
--- one whole; no byte is lost or added. Then the device carries out that very list, each command once and in order."
+-- Demand 3 with request 2026-11: "A fresh device, always lent its 217 bytes, hears a list of sendable commands, neighbours differing in sequence
+-- number or code. Each is tried one or more times with one and the same frame"; each try arrives in one of the ways of `Arrival`, "at least one
+-- whole". "Then the device carries out that very list, each command once and in order."
 -- `session` is the device that is always lent its bytes, so that number 7 never comes.
 use Prim.Native.Nat.{ℕ}
 use mathlib.Core.Path.{_≡_}
-use mathlib.Core.Bool.{Bool, true, false, not, _&&_, _||_}
+use mathlib.Core.Bool.{Bool, true, false, not, cond, _&&_, _||_}
 use mathlib.Core.List.{List, [], _∷_, _++_, map}
-use lib.Dec.{ltb, eqb}
-use lib.ListN.{length, getD, set}
-use Rattle.wire.specs.Bytes.{every}
+use lib.Dec.{eqb}
 use Rattle.wire.specs.Frame.{Message, frame, sendable}
-use Rattle.wire.specs.Places.{is}
 use Rattle.wire.specs.declared.Kind.the-variants.{Command}
-use Rattle.line.specs.Turns.{State, Carried, session}
-
--- how one try arrives: "whole or with exactly one byte replaced by another". That byte may be any number: nothing rests on its being below 256.
-pub data Arrival : Type 0 where
-  whole : Arrival
-  replaced : (at byte : ℕ) → Arrival
+use Rattle.reader.specs.Reading.{outside, Event, nothing, brokenFrame, heard}
+use Rattle.line.specs.Turns.{State, Carried, Session, onWhole, session}
+use Rattle.tries.specs.Tries.{Arrival, whole, replaced, cut, mayArrive, arriving, Begun, leaves, brings}
 
 abbrev pub isWhole : Arrival → Bool
 isWhole whole = true
 isWhole (replaced at byte) = false
-
--- the place is one of the frame's, and the byte is another one than stood there
-abbrev pub mayArrive : List ℕ → Arrival → Bool
-mayArrive sent whole = true
-mayArrive sent (replaced at byte) = ltb at (length sent) && not (eqb byte (getD sent at 0))
-
--- the bytes that arrive: "no byte is lost or added"
-abbrev pub arriving : List ℕ → Arrival → List ℕ
-arriving sent whole = sent
-arriving sent (replaced at byte) = set sent at byte
+isWhole (cut count) = false
 
 -- a command and its tries
 pub record Sent : Type 0 where
@@ -75,10 +60,29 @@ abbrev pub allArriving : List Sent → List ℕ
 allArriving [] = []
 allArriving (c ∷ cs) = triesArriving (frame Command (c .command)) (c .tries) ++ allArriving cs
 
--- a whole try is answered, the first and every repeat alike, byte for byte; a damaged one brings NAK (15h) or nothing, never an answer
-abbrev pub Answered : List ℕ → Arrival → List ℕ → Type 0
-Answered answer whole given = given ≡ answer
-Answered answer (replaced at byte) given = every (is 0x15) given ≡ true
+-- what all the tries of one command leave begun
+abbrev pub triesLeave : Begun → Message → List Arrival → Begun
+triesLeave b m [] = b
+triesLeave b m (a ∷ rest) = triesLeave (leaves Command b m a) m rest
+
+-- what is given back for what a try of m brings: NAK (15h) for a broken frame; for a frame heard its answer, that of m, or that of the
+-- command before m once more
+abbrev pub given : Message → (last answer : List ℕ) → List Event → List ℕ
+given m last answer [] = []
+given m last answer (nothing ∷ es) = given m last answer es
+given m last answer (brokenFrame ∷ es) = 0x15 ∷ given m last answer es
+given m last answer (heard n ∷ es) = cond (differ n m) last answer ++ given m last answer es
+
+-- whether m itself is heard
+abbrev pub hears : Message → List Event → Bool
+hears m [] = false
+hears m (nothing ∷ es) = hears m es
+hears m (brokenFrame ∷ es) = hears m es
+hears m (heard n ∷ es) = not (differ n m) || hears m es
+
+-- "each command once": with the first try in which it is heard
+abbrev pub carriedIn : Message → (done now : Bool) → List Message
+carriedIn m done now = cond (not done && now) (m ∷ []) []
 
 module _ {B : Type 0} (carry : B → Message → Carried B) where
   -- what a list of commands makes of the books, "each command once and in order"
@@ -86,16 +90,36 @@ module _ {B : Type 0} (carry : B → Message → Carried B) where
   carryAll books [] = books
   carryAll books (m ∷ ms) = carryAll (carry books m .books) ms
 
-  -- what is given back during each try of one command, whose answer is known
-  abbrev pub TriesAnswered : State B → List ℕ → List ℕ → List Arrival → Type 0
-  TriesAnswered s sent answer [] = Unit {0}
-  TriesAnswered s sent answer (a ∷ rest) =
-      Answered answer a (session carry s (arriving sent a) .gives) × TriesAnswered (session carry s (arriving sent a) .state) sent answer rest
+  -- one try of m: what is given back during it, and whether m is carried out with it; `done` says whether it was before
+  pub record TryBrings (s : State B) (m : Message) (done : Bool) (last answer : List ℕ) (a : Arrival) (news : List Event) : Type 0 where
+    pub gives : session carry s (arriving (frame Command m) a) .gives ≡ given m last answer news
+    pub carried : session carry s (arriving (frame Command m) a) .carried ≡ carriedIn m done (hears m news)
 
-  -- and of every command of the list: the answer is that of carrying it out at its turn
-  abbrev pub AllAnswered : State B → B → List Sent → Type 0
-  AllAnswered s books [] = Unit {0}
-  AllAnswered s books (c ∷ cs) =
-      let sent = frame Command (c .command) in
-      TriesAnswered s sent (carry books (c .command) .answer) (c .tries)
-      × AllAnswered (session carry s (triesArriving sent (c .tries)) .state) (carry books (c .command) .books) cs
+  -- the tries of one command, one after the other, from what stands begun
+  abbrev pub TriesBring : State B → Begun → Message → Bool → (last answer : List ℕ) → List Arrival → Type 0
+  TriesBring s b m done last answer [] = Unit {0}
+  TriesBring s b m done last answer (a ∷ rest) =
+      let news = brings Command b m a in
+      TryBrings s m done last answer a news
+      × TriesBring (session carry s (arriving (frame Command m) a) .state) (leaves Command b m a) m (done || hears m news) last answer rest
+
+  -- and of every command of the list: its answer is that of carrying it out at its turn
+  abbrev pub AllBring : State B → Begun → B → (last : List ℕ) → List Sent → Type 0
+  AllBring s b books last [] = Unit {0}
+  AllBring s b books last (c ∷ cs) =
+      let m = c .command in
+      let answer = carry books m .answer in
+      TriesBring s b m false last answer (c .tries)
+      × AllBring (session carry s (triesArriving (frame Command m) (c .tries)) .state) (triesLeave b m (c .tries)) (carry books m .books) answer cs
+
+  abbrev pub endedBy : State B → (m n : Message) → ℕ → Session B
+  endedBy s m n count = session carry (session carry s (arriving (frame Command m) (cut count)) .state) (arriving (frame Command n) (replaced 0 0x03))
+
+  -- "the try that lacks only its last byte when the next one's first byte has become 03h". A try of m, cut, brings nothing; the next try, of n,
+  -- brings with its first byte what m's frame brings as a whole one, and then nothing.
+  pub record EndedByTheNext (s : State B) (m n : Message) (count : ℕ) : Type 0 where
+    pub quiet : session carry s (arriving (frame Command m) (cut count)) .gives ≡ []
+    pub none-yet : session carry s (arriving (frame Command m) (cut count)) .carried ≡ []
+    pub gives : endedBy s m n count .gives ≡ onWhole carry s outside m .gives
+    pub carried : endedBy s m n count .carried ≡ onWhole carry s outside m .carried
+    pub state : endedBy s m n count .state ≡ onWhole carry s outside m .state

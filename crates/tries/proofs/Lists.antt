@@ -5,7 +5,7 @@ use mathlib.Core.Logic.{_⊎_, ⊎-elim, inl, inr}
 use mathlib.Core.List.{List, [], _∷_, _++_, nil≢cons, cons≢nil, head-eq-of-cons-eq, tail-eq-of-cons-eq}
 use Prim.Native.Nat.{ℕ, zero, suc, _+_, _<_}
 use native.Mathlib.Omega.{arith}
-use lib.ListN.{length, getD, set}
+use lib.ListN.{length, getD, set, replicate}
 use Rattle.wire.specs.Bytes.{every}
 use Rattle.wire.specs.Frame.{total}
 use Rattle.wire.proofs.Suits.{both}
@@ -116,33 +116,35 @@ off-parts (x ∷ a) b (later {z} {xs} {ys} d) e =
     subst (λ w. InFirst (x ∷ a) b (w ∷ ys) ⊎ InSecond (x ∷ a) b (w ∷ ys)) (sym (head-eq-of-cons-eq e))
     (first-later x a b ys (off-parts a b d (tail-eq-of-cons-eq e)))
 
--- the two lists around that place
-pub record Around (f g : List ℕ) : Type 0 where
-  pub left : List ℕ
-  pub right : List ℕ
-  pub old : ℕ
-  pub new : ℕ
-  pub f-is : f ≡ left ++ old ∷ right
-  pub g-is : g ≡ left ++ new ∷ right
-
-pub around : {f g : List ℕ} → OneOff f g → Around f g
-around (here {x} {y} {zs} n) = record { left = []; right = zs; old = x; new = y; f-is = refl; g-is = refl }
-around (later {z} {xs} {ys} d) =
-    let r = around d in
-    record { left = z ∷ r .left; right = r .right; old = r .old; new = r .new; f-is = ap (λ w. z ∷ w) (r .f-is); g-is = ap (λ w. z ∷ w) (r .g-is) }
-
--- two lists of one byte
-pub off-one : (x : ℕ) {f g : List ℕ} → OneOff f g → f ≡ x ∷ [] → (y : ℕ) × (g ≡ y ∷ []) × (x ≡ y → ⊥)
-off-one x (here {x = u} {y} {zs} n) e = (y, ap (λ z. y ∷ z) (tail-eq-of-cons-eq e), λ q. n (head-eq-of-cons-eq e ∙ q))
-off-one x (later {z} {xs} {ys} d) e = absurd (off-none d (tail-eq-of-cons-eq e))
-  where
-    off-none : {f g : List ℕ} → OneOff f g → f ≡ [] → ⊥
-    off-none (here n) e = cons≢nil e
-    off-none (later d) e = cons≢nil e
-
 pub off-some : {f g : List ℕ} → OneOff f g → 0 < length f
 off-some (here n) = omega arith
 off-some (later d) = omega arith
+
+-- two cuts of one list: the second no earlier than the first, or earlier
+pub record NoEarlier (a b c d : List ℕ) : Type 0 where
+  pub extra : List ℕ
+  pub is : c ≡ a ++ extra
+  pub rest : b ≡ extra ++ d
+
+pub record Earlier (a b c d : List ℕ) : Type 0 where
+  pub extra : List ℕ
+  pub is : a ≡ c ++ extra
+  pub rest : d ≡ extra ++ b
+
+pub overlap : (a b c d : List ℕ) → a ++ b ≡ c ++ d → NoEarlier a b c d ⊎ Earlier a b c d
+overlap [] b c d e = inl (record { extra = c; is = refl; rest = e })
+overlap (x ∷ a) b [] d e = inr (record { extra = x ∷ a; is = refl; rest = sym e })
+overlap (x ∷ a) b (y ∷ c) d e =
+    let head : x ≡ y = head-eq-of-cons-eq e in
+    ⊎-elim
+    (λ r. inl (record { extra = r .extra; is = ap (λ z. y ∷ z) (r .is) ∙ ap (λ z. z ∷ a ++ r .extra) (sym head); rest = r .rest }))
+    (λ r. inr (record { extra = r .extra; is = ap (λ z. x ∷ z) (r .is) ∙ ap (λ z. z ∷ c ++ r .extra) head; rest = r .rest }))
+    (overlap a b c d (tail-eq-of-cons-eq e))
+
+-- the last of some
+pub last-of : (x : ℕ) (xs : List ℕ) → (init : List ℕ) × (last : ℕ) × (x ∷ xs ≡ init ++ last ∷ [])
+last-of x [] = ([], x, refl)
+last-of x (y ∷ xs) = let r = last-of y xs in (x ∷ r .0, r .1, ap (λ z. x ∷ z) (r .2))
 
 -- two lists with a last element
 pub snoc-same : {A : Type 0} (xs ys : List A) (a b : A) → xs ++ a ∷ [] ≡ ys ++ b ∷ [] → (xs ≡ ys) × (a ≡ b)
@@ -156,3 +158,13 @@ snoc-same (x ∷ xs) (y ∷ ys) a b e =
     let head : x ≡ y = head-eq-of-cons-eq e in
     let tail : xs ≡ ys = rest .0 in
     (cc, rest .1)
+
+-- the first part of a run of one element
+pub prefix-same : {A : Type 0} (xs ys : List A) (a : A) (n : ℕ) → xs ++ ys ≡ replicate n a → (j : ℕ) × (xs ≡ replicate j a)
+prefix-same [] ys a n e = (0, refl)
+prefix-same (x ∷ xs) ys a zero e = absurd (cons≢nil e)
+prefix-same (x ∷ xs) ys a (suc n) e =
+    let rest = prefix-same xs ys a n (tail-eq-of-cons-eq e) in
+    let head : x ≡ a = head-eq-of-cons-eq e in
+    let tail : xs ≡ replicate (rest .0) a = rest .1 in
+    (suc (rest .0), cc)

@@ -1,0 +1,4 @@
+pub mod Lists
+pub mod Bodies
+pub mod Hearing
+pub mod Trying
