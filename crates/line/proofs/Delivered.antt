@@ -13,7 +13,7 @@ use Rattle.wire.proofs.Suits.{both}
 use Rattle.reader.specs.Reading.{Event, nothing, brokenFrame, heard, run}
 use Rattle.line.specs.Turns.{Before, none, was, State, Carried, Turn, Session, switchedOn, repeats, lastAnswer, session}
 use Rattle.tries.specs.Tries.{Arrival, whole, replaced, cut, mayArrive, arriving, Begun, clear, begun, leaves, startBrings, lostStartBrings, damageBrings, brings}
-use Rattle.line.specs.Delivery.{isWhole, Sent, all, any, tried, differ, differsFrom, delivery, commands, triesArriving, allArriving, triesLeave, given, hears, carriedIn, carryAll, TriesBring, AllBring}
+use Rattle.line.specs.Delivery.{isWhole, Sent, all, any, tried, differ, differsFrom, delivery, commands, triesArriving, allArriving, triesLeave, given, heardIn, carriedIn, carryAll, TriesBring, AllBring}
 use Rattle.tries.specs.TryRead.{news, standsAt, Fits}
 use Rattle.tries.proofs.Trying.{try-read}
 use Rattle.line.proofs.Sessions.{device, Reaction, endingAt, behind, session-append, session-news, frame-again, frame-new, reacts}
@@ -83,9 +83,9 @@ module _ {B : Type 0} (carry : B → Message → Carried B) where
     abbrev Told : Bool → List Event → Reaction B
     Told done es = record {
       gives = given m (lastAnswer first) answer es;
-      carried = carriedIn m done (hears m es);
-      before = beforeAt (done || hears m es);
-      books = booksAt (done || hears m es);
+      carried = carriedIn m done (heardIn m es);
+      before = beforeAt (done || heardIn m es);
+      books = booksAt (done || heardIn m es);
     }
 
     abbrev heardThen : Before → B → Message → List Event → Reaction B
@@ -102,9 +102,9 @@ module _ {B : Type 0} (carry : B → Message → Carried B) where
         ∙ ap (behind answer (m ∷ [])) rest
         ∙ ap (λ z. record {
           gives = cond (not z) (lastAnswer first) answer ++ given m (lastAnswer first) answer es;
-          carried = carriedIn m false (not (not z) || hears m es);
-          before = beforeAt (not (not z) || hears m es);
-          books = booksAt (not (not z) || hears m es);
+          carried = carriedIn m false (not (not z) || heardIn m es);
+          before = beforeAt (not (not z) || heardIn m es);
+          books = booksAt (not (not z) || heardIn m es);
         }) (sym (same m))
 
     -- the frame before is heard once more
@@ -116,9 +116,9 @@ module _ {B : Type 0} (carry : B → Message → Carried B) where
         ∙ ap (behind (lastAnswer first) []) rest
         ∙ ap (λ z. record {
           gives = cond z (lastAnswer first) answer ++ given m (lastAnswer first) answer es;
-          carried = carriedIn m false (not z || hears m es);
-          before = beforeAt (not z || hears m es);
-          books = booksAt (not z || hears m es);
+          carried = carriedIn m false (not z || heardIn m es);
+          before = beforeAt (not z || heardIn m es);
+          books = booksAt (not z || heardIn m es);
         }) (sym (o .other))
 
     reacting : (es : List Event) (done : Bool) → Known done es → reacts carry (beforeAt done) (booksAt done) es ≡ Told done es
@@ -167,11 +167,11 @@ module _ {B : Type 0} (carry : B → Message → Carried B) where
     known (cut zero) b done h = tt
     known (cut (suc c)) b done h = subst (Known done) (append-nil (startBrings b)) (known-start b done [] tt)
 
-    ours : (a : Arrival) (b : Begun) (done : Bool) → Ours done b → Ours (done || hears m (brings Command b m a)) (leaves Command b m a)
+    ours : (a : Arrival) (b : Begun) (done : Bool) → Ours done b → Ours (done || heardIn m (brings Command b m a)) (leaves Command b m a)
     ours whole b done h = tt
     ours (replaced at byte) b done h = go (eqb byte 0x01 && eqb (at + 1) (length (frame Command m)))
       where
-        go : (t : Bool) → Ours (done || hears m (brings Command b m (replaced at byte))) (cond t (begun m 1) clear)
+        go : (t : Bool) → Ours (done || heardIn m (brings Command b m (replaced at byte))) (cond t (begun m 1) clear)
         go true = inl refl
         go false = tt
     ours (cut zero) b done h = subst (λ d. Ours d b) (sym (or-false done)) h
@@ -188,18 +188,18 @@ module _ {B : Type 0} (carry : B → Message → Carried B) where
         ∙ ap (endingAt (standsAt Command (leaves Command b m a))) (reacting (brings Command b m a) done (known a b done h))
 
     -- a whole try is heard
-    hears-whole : (b : Begun) → hears m (brings Command b m whole) ≡ true
+    hears-whole : (b : Begun) → heardIn m (brings Command b m whole) ≡ true
     hears-whole clear = ap (λ z. not (not z) || false) (same m)
     hears-whole (begun n count) = go (ltb 1 count)
       where
-        go : (t : Bool) → hears m (cond t (brokenFrame ∷ []) [] ++ heard m ∷ []) ≡ true
+        go : (t : Bool) → heardIn m (cond t (brokenFrame ∷ []) [] ++ heard m ∷ []) ≡ true
         go true = ap (λ z. not (not z) || false) (same m)
         go false = ap (λ z. not (not z) || false) (same m)
 
-    still : (a : Arrival) (b : Begun) (done rest : Bool) → done || (isWhole a || rest) ≡ true → (done || hears m (brings Command b m a)) || rest ≡ true
+    still : (a : Arrival) (b : Begun) (done rest : Bool) → done || (isWhole a || rest) ≡ true → (done || heardIn m (brings Command b m a)) || rest ≡ true
     still whole b done rest e = ap (λ h. (done || h) || rest) (hears-whole b) ∙ or-then done rest
-    still (replaced i byte) b done rest e = or-more done (hears m (brings Command b m (replaced i byte))) rest e
-    still (cut count) b done rest e = or-more done (hears m (brings Command b m (cut count))) rest e
+    still (replaced i byte) b done rest e = or-more done (heardIn m (brings Command b m (replaced i byte))) rest e
+    still (cut count) b done rest e = or-more done (heardIn m (brings Command b m (cut count))) rest e
 
     -- all the tries, at least one whole
     record Outcome (b : Begun) (done : Bool) (tries : List Arrival) : Type 0 where
@@ -219,18 +219,18 @@ module _ {B : Type 0} (carry : B → Message → Carried B) where
         let brought : List Event = brings Command b m a in
         let now = one-try a (two .0) b f done h in
         let next = leaves Command b m a in
-        let o = tries-bring rest (two .1) next (try-read Command m can a (two .0) b f .fits) (done || hears m brought) (ours a b done h) (still a b done (any isWhole rest) some) in
+        let o = tries-bring rest (two .1) next (try-read Command m can a (two .0) b f .fits) (done || heardIn m brought) (ours a b done h) (still a b done (any isWhole rest) some) in
         let parts = session-append carry (at b done) (arriving sent a) (triesArriving sent rest) in
         let state = ap (λ (z : Session B). z .state) now in
         record {
           carried = ap (λ (z : Session B). z .carried) parts
               ∙ ap (λ (z : Session B). z .carried ++ session carry (z .state) (triesArriving sent rest) .carried) now
-              ∙ ap (λ ms. carriedIn m done (hears m brought) ++ ms) (o .carried)
-              ∙ once m done (hears m brought);
+              ∙ ap (λ ms. carriedIn m done (heardIn m brought) ++ ms) (o .carried)
+              ∙ once m done (heardIn m brought);
           state = ap (λ (z : Session B). z .state) parts ∙ ap (λ (z : State B). session carry z (triesArriving sent rest) .state) state ∙ o .state;
           bring = (
             record { gives = ap (λ (z : Session B). z .gives) now; carried = ap (λ (z : Session B). z .carried) now },
-            subst (λ (z : State B). TriesBring carry z next m (done || hears m brought) (lastAnswer first) answer rest) (sym state) (o .bring),
+            subst (λ (z : State B). TriesBring carry z next m (done || heardIn m brought) (lastAnswer first) answer rest) (sym state) (o .bring),
           );
           fits = o .fits;
           left = o .left;
@@ -287,7 +287,7 @@ module _ {B : Type 0} (carry : B → Message → Carried B) where
       let answer = carry books m .answer in
       let next = triesLeave b m (c .tries) in
       let rest = delivered-from cs (two .1) (was (m .seq) (m .code) answer) (new-next m answer cs (own .1)) next (o .fits)
-          (ours-left m (can .0) before new books cs (own .1) next (o .left)) (carry books m .books) in
+      (ours-left m (can .0) before new books cs (own .1) next (o .left)) (carry books m .books) in
       let s : State B = device (standsAt Command b) before books in
       let bytes = triesArriving sent (c .tries) in
       let parts = session-append carry s bytes (allArriving cs) in

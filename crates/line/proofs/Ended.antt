@@ -1,5 +1,5 @@
 -- "Mind the try that lacks only its last byte when the next one's first byte has become 03h": the frame is whole then, and heard at once.
-use mathlib.Core.Path.{_≡_, sym, ap, _∙_}
+use mathlib.Core.Path.{_≡_, refl, sym, ap, _∙_}
 use mathlib.Core.Bool.{true, cond, _&&_}
 use mathlib.Core.List.{[], _∷_, append-nil}
 use Prim.Native.Nat.{ℕ, zero, suc, _+_}
@@ -8,10 +8,12 @@ use lib.ListN.{length}
 use borrow.Author.Tests.{eq-eqb, lt-ltb}
 use Rattle.wire.specs.Frame.{Message, frame, sendable}
 use Rattle.wire.specs.declared.Kind.the-variants.{Command}
-use Rattle.reader.specs.Reading.{outside, brokenFrame, heard}
+use Rattle.reader.specs.Reading.{outside, brokenFrame, heard, Read}
 use Rattle.reader.proofs.RoundTrip.{frame-size}
-use Rattle.line.specs.Turns.{Before, State, Carried, Turn, Session, onWhole, session}
+use Rattle.line.specs.Turns.{Before, State, Carried, Turn, Session, onWhole, onEvent, turn, session}
 use Rattle.tries.specs.Tries.{replaced, cut, arriving, clear, begun}
+use Rattle.tries.specs.TryRead.{standsAt}
+use Rattle.tries.proofs.Trying.{ends-it}
 use Rattle.line.specs.Delivery.{EndedByTheNext}
 use Rattle.line.proofs.Sessions.{device, endingAt, reacts, frame-anywhere}
 use Rattle.line.proofs.Delivered.{any-try}
@@ -27,9 +29,15 @@ module _ {B : Type 0} (carry : B → Message → Carried B) (m n : Message) (cm 
       let two = any-try carry n cn (replaced 0 0x03) (ap (λ z. z && true) (lt-ltb 0 (length (frame Command n)) (omega arith))) (begun m (suc c)) (cm, omega arith, omega arith) before books in
       let heard-m = ap (λ z. reacts carry before books (cond z (heard m ∷ []) (brokenFrame ∷ []))) (eq-eqb (suc c + 1) (length (frame Command m)) e) in
       let behind = ap (λ (z : Session B). session carry (z .state) (arriving (frame Command n) (replaced 0 0x03))) one ∙ two ∙ ap (endingAt outside) heard-m in
+      let at : State B = device (standsAt Command (begun m (suc c))) before books in
+      let last = ends-it Command n m cn cm c (omega arith) 0x03 (λ q. omega arith) refl e in
       record {
         quiet = ap (λ (z : Session B). z .gives) one;
         none-yet = ap (λ (z : Session B). z .carried) one;
+        at-once = ap (λ (z : Session B). turn carry (z .state) 0x03) one
+            ∙ ap (λ (r : Read). onEvent carry at (r .place) (r .event)) last
+            ∙ frame-anywhere carry at outside m
+            ∙ sym (frame-anywhere carry found outside m);
         gives = ap (λ (z : Session B). z .gives) behind ∙ append-nil (t .gives);
         carried = ap (λ (z : Session B). z .carried) behind ∙ append-nil (t .carried);
         state = ap (λ (z : Session B). z .state) behind ∙ ap (λ (z : Turn B). z .state) (sym (frame-anywhere carry found outside m));

@@ -10,7 +10,7 @@ use lib.Dec.{eqb}
 use Rattle.wire.specs.Frame.{Message, frame, sendable}
 use Rattle.wire.specs.declared.Kind.the-variants.{Command}
 use Rattle.reader.specs.Reading.{outside, Event, nothing, brokenFrame, heard}
-use Rattle.line.specs.Turns.{State, Carried, Session, onWhole, session}
+use Rattle.line.specs.Turns.{State, Carried, Session, onWhole, turn, session}
 use Rattle.tries.specs.Tries.{Arrival, whole, replaced, cut, mayArrive, arriving, Begun, leaves, brings}
 
 abbrev pub isWhole : Arrival → Bool
@@ -74,11 +74,11 @@ given m last answer (brokenFrame ∷ es) = 0x15 ∷ given m last answer es
 given m last answer (heard n ∷ es) = cond (differ n m) last answer ++ given m last answer es
 
 -- whether m itself is heard
-abbrev pub hears : Message → List Event → Bool
-hears m [] = false
-hears m (nothing ∷ es) = hears m es
-hears m (brokenFrame ∷ es) = hears m es
-hears m (heard n ∷ es) = not (differ n m) || hears m es
+abbrev pub heardIn : Message → List Event → Bool
+heardIn m [] = false
+heardIn m (nothing ∷ es) = heardIn m es
+heardIn m (brokenFrame ∷ es) = heardIn m es
+heardIn m (heard n ∷ es) = not (differ n m) || heardIn m es
 
 -- "each command once": with the first try in which it is heard
 abbrev pub carriedIn : Message → (done now : Bool) → List Message
@@ -91,17 +91,17 @@ module _ {B : Type 0} (carry : B → Message → Carried B) where
   carryAll books (m ∷ ms) = carryAll (carry books m .books) ms
 
   -- one try of m: what is given back during it, and whether m is carried out with it; `done` says whether it was before
-  pub record TryBrings (s : State B) (m : Message) (done : Bool) (last answer : List ℕ) (a : Arrival) (news : List Event) : Type 0 where
-    pub gives : session carry s (arriving (frame Command m) a) .gives ≡ given m last answer news
-    pub carried : session carry s (arriving (frame Command m) a) .carried ≡ carriedIn m done (hears m news)
+  pub record TryBrings (s : State B) (m : Message) (done : Bool) (last answer : List ℕ) (a : Arrival) (brought : List Event) : Type 0 where
+    pub gives : session carry s (arriving (frame Command m) a) .gives ≡ given m last answer brought
+    pub carried : session carry s (arriving (frame Command m) a) .carried ≡ carriedIn m done (heardIn m brought)
 
   -- the tries of one command, one after the other, from what stands begun
   abbrev pub TriesBring : State B → Begun → Message → Bool → (last answer : List ℕ) → List Arrival → Type 0
   TriesBring s b m done last answer [] = Unit {0}
   TriesBring s b m done last answer (a ∷ rest) =
-      let news = brings Command b m a in
-      TryBrings s m done last answer a news
-      × TriesBring (session carry s (arriving (frame Command m) a) .state) (leaves Command b m a) m (done || hears m news) last answer rest
+      let brought = brings Command b m a in
+      TryBrings s m done last answer a brought
+      × TriesBring (session carry s (arriving (frame Command m) a) .state) (leaves Command b m a) m (done || heardIn m brought) last answer rest
 
   -- and of every command of the list: its answer is that of carrying it out at its turn
   abbrev pub AllBring : State B → Begun → B → (last : List ℕ) → List Sent → Type 0
@@ -112,14 +112,19 @@ module _ {B : Type 0} (carry : B → Message → Carried B) where
       TriesBring s b m false last answer (c .tries)
       × AllBring (session carry s (triesArriving (frame Command m) (c .tries)) .state) (triesLeave b m (c .tries)) (carry books m .books) answer cs
 
-  abbrev pub endedBy : State B → (m n : Message) → ℕ → Session B
-  endedBy s m n count = session carry (session carry s (arriving (frame Command m) (cut count)) .state) (arriving (frame Command n) (replaced 0 0x03))
+  -- a try of m that is cut, and the next one, of n, whose first byte has become 03h
+  abbrev pub lacking : State B → Message → ℕ → Session B
+  lacking s m count = session carry s (arriving (frame Command m) (cut count))
 
-  -- "the try that lacks only its last byte when the next one's first byte has become 03h". A try of m, cut, brings nothing; the next try, of n,
-  -- brings with its first byte what m's frame brings as a whole one, and then nothing.
+  abbrev pub endedBy : State B → (m n : Message) → ℕ → Session B
+  endedBy s m n count = session carry (lacking s m count .state) (arriving (frame Command n) (replaced 0 0x03))
+
+  -- "the try that lacks only its last byte when the next one's first byte has become 03h": the first brings nothing; with the second's first
+  -- byte m's frame is whole, and answered or carried out as such; the rest of the second brings nothing
   pub record EndedByTheNext (s : State B) (m n : Message) (count : ℕ) : Type 0 where
-    pub quiet : session carry s (arriving (frame Command m) (cut count)) .gives ≡ []
-    pub none-yet : session carry s (arriving (frame Command m) (cut count)) .carried ≡ []
+    pub quiet : lacking s m count .gives ≡ []
+    pub none-yet : lacking s m count .carried ≡ []
+    pub at-once : turn carry (lacking s m count .state) 0x03 ≡ onWhole carry s outside m
     pub gives : endedBy s m n count .gives ≡ onWhole carry s outside m .gives
     pub carried : endedBy s m n count .carried ≡ onWhole carry s outside m .carried
     pub state : endedBy s m n count .state ≡ onWhole carry s outside m .state

@@ -14,7 +14,7 @@ use Rattle.wire.proofs.Suits.{both}
 use Rattle.reader.specs.Reading.{Place, outside, inside, Event, nothing, brokenFrame, heard, read, startsAnew, Run, run}
 use Rattle.reader.proofs.Walking.{run-first, run-append}
 use Rattle.reader.proofs.RoundTrip.{read-what-was-built}
-use Rattle.tries.specs.Tries.{Arrival, whole, replaced, cut, mayArrive, arriving, Begun, clear, begun, leaves, startBrings, lostStartBrings, damageBrings, brings}
+use Rattle.tries.specs.Tries.{Arrival, whole, replaced, cut, mayArrive, Begun, clear, begun, leaves, startBrings, lostStartBrings, damageBrings}
 use Rattle.tries.specs.TryRead.{news, standsAt, Fits, TryRead}
 use Rattle.tries.proofs.Lists.{Free, free-join, free-left, free-right, off-set, last-of, snoc-same, prefix-same}
 use Rattle.tries.proofs.Bodies.{core, check, body, no-01, length-body, no-window, no-damaged, joined}
@@ -214,13 +214,13 @@ module _ (k : Kind) (m : Message) (can : sendable k m ≡ true) (i byte : ℕ) (
 
 -- 01h itself was replaced, and a frame stands begun
 module _ (k : Kind) (m n : Message) (cm : sendable k m ≡ true) (cn : sendable k n ≡ true) (c : ℕ) (h : suc c < length (frame k n)) (x : ℕ) (ne : x ≡ 0x01 → ⊥) where
-  abbrev ahead : List ℕ
+  abbrev pub ahead : List ℕ
   ahead = take c (body k n)
 
   abbrev lacks : List ℕ
   lacks = drop (suc c) (body k n)
 
-  abbrev place : Place
+  abbrev pub place : Place
   place = run k (inside 0 []) ahead .place
 
   in-two : body k n ≡ ahead ++ getD (body k n) c 0 ∷ lacks
@@ -231,7 +231,7 @@ module _ (k : Kind) (m n : Message) (cm : sendable k m ≡ true) (cn : sendable 
 
   -- the byte that it lacked
   module _ (three : x ≡ 0x03) (last : suc c + 1 ≡ length (frame k n)) where
-    ends-it : read k place x ≡ record { place = outside; event = heard n }
+    pub ends-it : read k place x ≡ record { place = outside; event = heard n }
     ends-it =
         let full : length (body k n) ≤ suc c = omega arith in
         let none : lacks ≡ [] = drop-of-length-le (body k n) full in

@@ -1,5 +1,5 @@
 -- The law of this room: a try, read from wherever the tries before it left off, brings what `brings` says and leaves begun what `leaves` says.
-use Prim.Native.Nat.{ℕ, _<_}
+use Prim.Native.Nat.{_<_}
 use mathlib.Core.Path.{_≡_}
 use mathlib.Core.Bool.{true}
 use mathlib.Core.List.{List, [], _∷_}
