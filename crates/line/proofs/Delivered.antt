@@ -88,38 +88,32 @@ module _ {B : Type 0} (carry : B → Message → Carried B) where
       books = booksAt (done || heardIn m es);
     }
 
-    abbrev heardThen : Before → B → Message → List Event → Reaction B
-    heardThen before b n es = reacts carry before b (heard n ∷ es)
+    -- with one frame more in front, of another command or of this one
+    abbrev ToldWith : (another done : Bool) → List Event → Reaction B
+    ToldWith another done es = record {
+      gives = cond another (lastAnswer first) answer ++ given m (lastAnswer first) answer es;
+      carried = carriedIn m done (not another || heardIn m es);
+      before = beforeAt (done || (not another || heardIn m es));
+      books = booksAt (done || (not another || heardIn m es));
+    }
+
+    abbrev turnThen : List Event → Turn B → Reaction B
+    turnThen es t = behind (t .gives) (t .carried) (reacts carry (t .state .before) (t .state .books) es)
 
     -- the command itself is heard: carried out, or answered again
-    own : (done : Bool) (es : List Event) → reacts carry (beforeAt true) (booksAt true) es ≡ Told true es → heardThen (beforeAt done) (booksAt done) m es ≡ Told done (heard m ∷ es)
+    own : (done : Bool) (es : List Event) → reacts carry (beforeAt true) (booksAt true) es ≡ Told true es
+        → reacts carry (beforeAt done) (booksAt done) (heard m ∷ es) ≡ Told done (heard m ∷ es)
     own true es rest =
-        ap (λ (t : Turn B). behind (t .gives) (t .carried) (reacts carry (t .state .before) (t .state .books) es)) (frame-again carry (beforeAt true) (booksAt true) m (same m))
-        ∙ ap (behind answer []) rest
-        ∙ ap (λ z. record { gives = cond (not z) (lastAnswer first) answer ++ given m (lastAnswer first) answer es; carried = []; before = beforeAt true; books = booksAt true }) (sym (same m))
+        ap (turnThen es) (frame-again carry (beforeAt true) (booksAt true) m (same m)) ∙ ap (behind answer []) rest ∙ ap (λ z. ToldWith (not z) true es) (sym (same m))
     own false es rest =
-        ap (λ (t : Turn B). behind (t .gives) (t .carried) (reacts carry (t .state .before) (t .state .books) es)) (frame-new carry first books m new)
-        ∙ ap (behind answer (m ∷ [])) rest
-        ∙ ap (λ z. record {
-          gives = cond (not z) (lastAnswer first) answer ++ given m (lastAnswer first) answer es;
-          carried = carriedIn m false (not (not z) || heardIn m es);
-          before = beforeAt (not (not z) || heardIn m es);
-          books = booksAt (not (not z) || heardIn m es);
-        }) (sym (same m))
+        ap (turnThen es) (frame-new carry first books m new) ∙ ap (behind answer (m ∷ [])) rest ∙ ap (λ z. ToldWith (not z) false es) (sym (same m))
 
     -- the frame before is heard once more
     older : (done : Bool) (n : Message) (es : List Event) → Older done n → reacts carry (beforeAt done) (booksAt done) es ≡ Told done es
-        → heardThen (beforeAt done) (booksAt done) n es ≡ Told done (heard n ∷ es)
+        → reacts carry (beforeAt done) (booksAt done) (heard n ∷ es) ≡ Told done (heard n ∷ es)
     older true n es o rest = absurd (false≢true (sym (o .not-yet)))
     older false n es o rest =
-        ap (λ (t : Turn B). behind (t .gives) (t .carried) (reacts carry (t .state .before) (t .state .books) es)) (frame-again carry first books n (o .again))
-        ∙ ap (behind (lastAnswer first) []) rest
-        ∙ ap (λ z. record {
-          gives = cond z (lastAnswer first) answer ++ given m (lastAnswer first) answer es;
-          carried = carriedIn m false (not z || heardIn m es);
-          before = beforeAt (not z || heardIn m es);
-          books = booksAt (not z || heardIn m es);
-        }) (sym (o .other))
+        ap (turnThen es) (frame-again carry first books n (o .again)) ∙ ap (behind (lastAnswer first) []) rest ∙ ap (λ z. ToldWith z false es) (sym (o .other))
 
     reacting : (es : List Event) (done : Bool) → Known done es → reacts carry (beforeAt done) (booksAt done) es ≡ Told done es
     reacting [] true h = refl
@@ -128,7 +122,7 @@ module _ {B : Type 0} (carry : B → Message → Carried B) where
     reacting (brokenFrame ∷ es) done h = ap (behind (0x15 ∷ []) []) (reacting es done h)
     reacting (heard n ∷ es) done h =
         ⊎-elim
-        (λ c. subst (λ z. heardThen (beforeAt done) (booksAt done) z es ≡ Told done (heard z ∷ es)) (sym (c .0)) (own done es (reacting es true (c .1))))
+        (λ c. subst (λ z. reacts carry (beforeAt done) (booksAt done) (heard z ∷ es) ≡ Told done (heard z ∷ es)) (sym (c .0)) (own done es (reacting es true (c .1))))
         (λ c. older done n es (c .0) (reacting es done (c .1)))
         h
 
