@@ -1,6 +1,6 @@
 -- The theorem of demand 3: the list that was sent is the list that is carried out, each command once and in order; and what each try brings.
 use mathlib.Core.Path.{_≡_, refl, sym, ap, _∙_, subst}
-use mathlib.Core.Bool.{Bool, true, false, cond, not, _&&_, _||_, false≢true}
+use mathlib.Core.Bool.{Bool, true, false, cond, not, _&&_, _||_, or-true, or-false, false≢true}
 use mathlib.Core.Logic.{_⊎_, ⊎-elim, inl, inr}
 use mathlib.Core.List.{List, [], _∷_, _++_, append-nil}
 use Prim.Native.Nat.{ℕ, zero, suc, _+_}
@@ -21,14 +21,6 @@ use Rattle.line.proofs.Sessions.{device, Reaction, endingAt, behind, se
 -- a command is its own repeat
 same : (m : Message) → eqb (m .seq) (m .seq) && eqb (m .code) (m .code) ≡ true
 same m = rw (eq-eqb (m .seq) (m .seq) refl, eq-eqb (m .code) (m .code) refl)
-
-or-false : (d : Bool) → d || false ≡ d
-or-false true = refl
-or-false false = refl
-
-or-then : (d r : Bool) → (d || true) || r ≡ true
-or-then true r = refl
-or-then false r = refl
 
 or-more : (d h r : Bool) → d || r ≡ true → (d || h) || r ≡ true
 or-more true h r e = refl
@@ -191,7 +183,7 @@ module _ {B : Type 0} (carry : B → Message → Carried B) where
         go false = ap (λ z. not (not z) || false) (same m)
 
     still : (a : Arrival) (b : Begun) (done rest : Bool) → done || (isWhole a || rest) ≡ true → (done || heardIn m (brings Command b m a)) || rest ≡ true
-    still whole b done rest e = ap (λ h. (done || h) || rest) (hears-whole b) ∙ or-then done rest
+    still whole b done rest e = ap (λ h. (done || h) || rest) (hears-whole b) ∙ ap (λ z. z || rest) (or-true done)
     still (replaced i byte) b done rest e = or-more done (heardIn m (brings Command b m (replaced i byte))) rest e
     still (cut count) b done rest e = or-more done (heardIn m (brings Command b m (cut count))) rest e
 
