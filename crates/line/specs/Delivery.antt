@@ -65,8 +65,8 @@ abbrev pub triesLeave : Begun → Message → List Arrival → Begun
 triesLeave b m [] = b
 triesLeave b m (a ∷ rest) = triesLeave (leaves Command b m a) m rest
 
--- what is given back for what a try of m brings: NAK (15h) for a broken frame; for a frame heard its answer, that of m, or that of the
--- command before m once more
+-- PROTOCOL 9.4: what is given back for what a try of m brings: NAK (15h) for a broken frame; for a frame heard its answer, that of m, or that
+-- of the command before m once more
 abbrev pub given : Message → (last answer : List ℕ) → List Event → List ℕ
 given m last answer [] = []
 given m last answer (nothing ∷ es) = given m last answer es
@@ -80,7 +80,7 @@ heardIn m (nothing ∷ es) = heardIn m es
 heardIn m (brokenFrame ∷ es) = heardIn m es
 heardIn m (heard n ∷ es) = not (differ n m) || heardIn m es
 
--- "each command once": with the first try in which it is heard
+-- PROTOCOL 9.6: each command once, with the first try in which it is heard
 abbrev pub carriedIn : Message → (done now : Bool) → List Message
 carriedIn m done now = cond (not done && now) (m ∷ []) []
 
@@ -119,8 +119,8 @@ module _ {B : Type 0} (carry : B → Message → Carried B) where
   abbrev pub endedBy : State B → (m n : Message) → ℕ → Session B
   endedBy s m n count = session carry (lacking s m count .state) (arriving (frame Command n) (replaced 0 0x03))
 
-  -- "the try that lacks only its last byte when the next one's first byte has become 03h": the first brings nothing; with the second's first
-  -- byte m's frame is whole, and answered or carried out as such; the rest of the second brings nothing
+  -- PROTOCOL 9.5, where m's try lacks only its last byte: it brings nothing; with the next one's first byte m's frame is whole, and carried out or
+  -- answered again as such; the rest of the next one brings nothing
   pub record EndedByTheNext (s : State B) (m n : Message) (count : ℕ) : Type 0 where
     pub quiet : lacking s m count .gives ≡ []
     pub none-yet : lacking s m count .carried ≡ []
