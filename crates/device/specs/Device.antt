@@ -61,3 +61,7 @@ abbrev pub afterByte : Line → Books → List ℕ → List ℕ → List ℕ →
 afterByte l b frame last buffer byte =
     cond (ltb (length buffer) 217) (notTaken l b frame last buffer)
     (taken l frame last buffer (turn carry (stateOf l b frame last) byte))
+
+-- one byte with a buffer of this length lent: "7: lent buffer too short (device 217)" before all else
+abbrev pub lentTurn : (room : ℕ) → State Books → ℕ → Turn Books
+lentTurn room s byte = cond (ltb room 217) (record { number = 7; gives = []; carried = []; state = s }) (turn carry s byte)

@@ -28,6 +28,13 @@ pub struct Given {
     pub count: usize,
 }
 
+// What a part of the line's bytes brought: what the last byte taken asked for and what it was given, and how many bytes were taken.
+pub struct Hearing {
+    pub given: Given,
+    pub call: Call,
+    pub taken: usize,
+}
+
 // A command carried out: the answer is the first `count` bytes of the lent buffer.
 pub struct Work {
     pub number: u64,
