@@ -1,7 +1,6 @@
 pub mod Verdicts
-pub mod Demand1
-pub mod Coded
-pub mod Rows
+pub mod DeviceRows
+pub mod TillRows
 pub mod Joining
 pub mod Demand2
 pub mod Demand3

@@ -1,4 +1,5 @@
-pub mod Table
+pub mod AtDevice
+pub mod AtTill
 pub mod Demand1
-pub mod Coded
+pub mod Ends
 pub mod Demand2
