@@ -40,13 +40,13 @@ tableCarry b m = carriedAs b (m .seq) (m .code) (tableDeed b (parsedOf (m .code)
 
 module _ (s : State Books) where
   -- turns, with all that decides them as arguments
-  abbrev short7 : Turn Books
+  abbrev pub short7 : Turn Books
   short7 = record { number = 7; gives = []; carried = []; state = s }
 
-  abbrev again : Place → Turn Books
+  abbrev pub again : Place → Turn Books
   again next = record { number = 6; gives = lastAnswer (s .before); carried = []; state = record { place = next; before = s .before; books = s .books } }
 
-  abbrev ordered : Place → Message → Carried Books → Turn Books
+  abbrev pub ordered : Place → Message → Carried Books → Turn Books
   ordered next m k =
       record { number = k .number; gives = k .answer; carried = m ∷ []; state = record { place = next; before = was (m .seq) (m .code) (k .answer); books = k .books } }
 

@@ -1,0 +1,154 @@
+-- Demand 1: every event in every history of fresh ends has a reply by the table, and a reply by the table is that reply.
+use mathlib.Core.Path.{_≡_, refl, sym, ap, _∙_, subst}
+use mathlib.Core.Bool.{Bool, true, false, cond}
+use mathlib.Core.List.{List, [], _∷_}
+use Prim.Native.Nat.{ℕ, _+_, _≤_, _<_}
+use native.Mathlib.Omega.{arith}
+use lib.Dec.{ltb}
+use lib.ListN.{length}
+use borrow.Author.Tests.{ltb-true}
+use Rattle.wire.specs.Frame.{Message, commandOf, sendable}
+use Rattle.wire.specs.declared.Kind.the-variants.{Command}
+use Rattle.reader.specs.Reading.{Place, Event, nothing, brokenFrame, heard, read}
+use Rattle.books.specs.Sound.{sound}
+use Rattle.books.specs.declared.Books.{Books}
+use Rattle.kinds.specs.declared.Parsed.{Parsed}
+use Rattle.kinds.specs.declared.Parsed.the-variants.{Read, Syntax, Unknown}
+use Rattle.command.specs.Commands.{parsedOf}
+use Rattle.history.specs.Reached.{Reached}
+use Rattle.history.proofs.Reaching.{fresh-reached, reached-stays}
+use Rattle.line.specs.Turns as line
+use Rattle.device.specs.Carrying.{deedFor, carry}
+use Rattle.device.specs.Device.{lentTurn}
+use Rattle.till.specs.Turns as till
+use Rattle.till.specs.declared.Word.the-variants.{Unfinished, TooShort, NotSent}
+use Rattle.till.proofs.Seeing.{failsBy}
+use Rattle.promises.specs.AtDevice.{FromDevice, ByDevice}
+use Rattle.promises.specs.AtTill.{replies, fails, atRest, row-9}
+use Rattle.promises.specs.Demand1.{Bench, freshBench, Comes, atDevice, atTill, Outcome, fromDevice, fromTill, benchAfter, ByTheTable, at-device, at-till, AllByTheTable, no-more, then}
+use Rattle.promises.specs.Ends.{ofDevice, ofTill, replyOf, repliesOf}
+use Rattle.promises.proofs.DeviceRows as device-rows
+use Rattle.promises.proofs.TillRows as till-rows
+
+-- uniqueness, from any state: the rows as a function
+abbrev tableReply : Bench → Comes → Outcome
+tableReply s (atDevice buffer byte) = fromDevice (ofDevice buffer (device-rows.tableTurn (s .device) (length buffer) byte))
+tableReply s (atTill buffer h) = fromTill (ofTill buffer (till.hears (length buffer) (s .till) h))
+
+only-this : (s : Bench) (c : Comes) (r : Outcome) → ByTheTable s c r → r ≡ tableReply s c
+only-this s c r (at-device {buffer = buffer} {byte = byte} {r = x} b) = ap fromDevice (device-rows.only-row (s .device) buffer byte x b)
+only-this s c r (at-till {buffer = buffer} {h = h} {r = x} b) = ap fromTill (till-rows.only-row (s .till) buffer h x b)
+
+pub the-reply-is-the-only-one : (s : Bench) (c : Comes) (r other : Outcome) → ByTheTable s c r → ByTheTable s c other → r ≡ other
+the-reply-is-the-only-one s c r other b d = only-this s c r b ∙ sym (only-this s c other d)
+
+abbrev tableReplies : Bench → List Comes → List Outcome
+tableReplies s [] = []
+tableReplies s (c ∷ cs) = tableReply s c ∷ tableReplies (benchAfter s (tableReply s c)) cs
+
+only-these : (s : Bench) (cs : List Comes) (rs : List Outcome) → AllByTheTable s cs rs → rs ≡ tableReplies s cs
+only-these s cs rs no-more = refl
+only-these s cs rs (then {c = c} {r = r} {cs = later} {rs = rest} b all) =
+    let same : r ≡ tableReply s c = only-this s c r b in
+    ap (λ z. r ∷ z) (only-these (benchAfter s r) later rest all) ∙ ap (λ z. z ∷ tableReplies (benchAfter s z) later) same
+
+-- and so of a whole history: exactly one list of replies is by the table
+pub the-replies-are-the-only-ones : (s : Bench) (cs : List Comes) (rs others : List Outcome) → AllByTheTable s cs rs → AllByTheTable s cs others → rs ≡ others
+the-replies-are-the-only-ones s cs rs others a b = only-these s cs rs a ∙ sym (only-these s cs others b)
+
+-- existence: from any state with sound books and at most five tries
+pub the-reply-is-by-the-table : (s : Bench) → sound (s .device .books) ≡ true → till-rows.triesOf (s .till .pending) ≤ 5 → (c : Comes) → ByTheTable s c (replyOf s c)
+the-reply-is-by-the-table s e few (atDevice buffer byte) =
+    at-device
+    (subst (λ t. ByDevice (s .device) buffer byte (ofDevice buffer t)) (sym (device-rows.as-the-table (s .device) e (length buffer) byte))
+    (device-rows.has-its-row (s .device) buffer byte))
+the-reply-is-by-the-table s e few (atTill buffer h) = at-till (till-rows.has-its-row (s .till) buffer h few)
+
+-- which every event leaves: the books are such as a fresh device comes to
+deed-stays : (b : Books) (p : Parsed) → Reached b → Reached (deedFor b p .books)
+deed-stays b (Read c) r = reached-stays b c r
+deed-stays b Syntax r = r
+deed-stays b Unknown r = r
+
+event-stays : (s : line.State Books) (next : Place) (e : Event) → Reached (s .books) → Reached (line.onEvent carry s next e .state .books)
+event-stays s next nothing r = r
+event-stays s next brokenFrame r = r
+event-stays s next (heard m) r = go (line.repeats (s .before) m)
+  where
+    go : (repeat : Bool)
+        → Reached (cond repeat (device-rows.again s next) (device-rows.ordered s next m (carry (s .books) m)) .state .books)
+    go true = r
+    go false = deed-stays (s .books) (parsedOf (m .code) (m .content)) r
+
+pub turn-stays : (room : ℕ) (s : line.State Books) (byte : ℕ) → Reached (s .books) → Reached (lentTurn room s byte .state .books)
+turn-stays room s byte r = go (ltb room 217)
+  where
+    go : (short : Bool) → Reached (cond short (device-rows.short7 s) (line.turn carry s byte) .state .books)
+    go true = r
+    go false = event-stays s (read Command (s .place) byte .place) (read Command (s .place) byte .event) r
+
+-- and the tries stay at five at most
+abbrev Few : till.Turn → Type 0
+Few t = till-rows.triesOf (t .state .pending) ≤ 5
+
+few-failed : (next seq code : ℕ) (bytes : List ℕ) (tries : ℕ) → Few (till.failsTry next seq code bytes tries)
+few-failed next seq code bytes tries = go (ltb tries 5) refl
+  where
+    go : (early : Bool) → ltb tries 5 ≡ early → Few (failsBy next seq code bytes tries early)
+    go true e = let low : tries < 5 = ltb-true tries 5 e in omega arith
+    go false e = omega arith
+
+few-meant : (next seq code : ℕ) (bytes : List ℕ) (tries : ℕ) (x : till.Meaning) → tries ≤ 5 → Few (till.onMeaning next seq code bytes tries x)
+few-meant next seq code bytes tries till.failed h = few-failed next seq code bytes tries
+few-meant next seq code bytes tries (till.goesOn q) h = h
+few-meant next seq code bytes tries (till.answers m) h = omega arith
+
+few-taken : (next : ℕ) (p : till.Pending) (h : till.Happening) → till-rows.triesOf p ≤ 5 → Few (till.takes (record { next = next; pending = p }) h)
+few-taken next till.idle (till.command code content) few = go (sendable Command (commandOf next code content))
+  where
+    go : (can : Bool) → Few (cond can (till.sent next (commandOf next code content)) (till.stays NotSent (record { next = next; pending = till.idle })))
+    go true = omega arith
+    go false = few
+few-taken next till.idle (till.byte b) few = few
+few-taken next till.idle till.timeout few = few
+few-taken next (till.waits seq code bytes tries place) (till.command other content) few = few
+few-taken next (till.waits seq code bytes tries place) (till.byte b) few = few-meant next seq code bytes tries (till.byteMeans seq code place b) few
+few-taken next (till.waits seq code bytes tries place) till.timeout few = few-failed next seq code bytes tries
+
+pub tries-stay : (lent : ℕ) (s : till.State) (h : till.Happening) → till-rows.triesOf (s .pending) ≤ 5 → Few (till.hears lent s h)
+tries-stay lent s h few = go (ltb lent 210)
+  where
+    go : (short : Bool) → Few (cond short (till.stays TooShort s) (till.takes s h))
+    go true = few
+    go false = few-taken (s .next) (s .pending) h few
+
+-- both, at a moment of a history of fresh ends
+pub record Proper (s : Bench) : Type 0 where
+  pub books : Reached (s .device .books)
+  pub tries : till-rows.triesOf (s .till .pending) ≤ 5
+
+pub fresh-proper : Proper freshBench
+fresh-proper = record { books = fresh-reached; tries = omega arith }
+
+pub proper-stays : (s : Bench) → Proper s → (c : Comes) → Proper (benchAfter s (replyOf s c))
+proper-stays s p (atDevice buffer byte) = record { books = turn-stays (length buffer) (s .device) byte (p .books); tries = p .tries }
+proper-stays s p (atTill buffer h) = record { books = p .books; tries = tries-stay (length buffer) (s .till) h (p .tries) }
+
+from-proper : (s : Bench) → Proper s → (cs : List Comes) → AllByTheTable s cs (repliesOf s cs)
+from-proper s p [] = no-more
+from-proper s p (c ∷ cs) = then (the-reply-is-by-the-table s (p .books .fits) (p .tries) c) (from-proper (benchAfter s (replyOf s c)) (proper-stays s p c) cs)
+
+-- the theorem: over every history of fresh ends each event has its reply by the table, the one that the ends give
+pub every-event-has-its-reply : (cs : List Comes) → AllByTheTable freshBench cs (repliesOf freshBench cs)
+every-event-has-its-reply cs = from-proper freshBench fresh-proper cs
+
+-- so that whatever is by the table is what the ends give
+pub no-other-replies : (cs : List Comes) (rs : List Outcome) → AllByTheTable freshBench cs rs → rs ≡ repliesOf freshBench cs
+no-other-replies cs rs all = the-replies-are-the-only-ones freshBench cs rs (repliesOf freshBench cs) all (every-event-has-its-reply cs)
+
+-- "After the fifth failed try the till end says Unfinished, never an answer": the table leaves it no other reply
+pub the-fifth-failed-try : (s : Bench) (buffer : List ℕ) (h : till.Happening) (seq code : ℕ) (bytes : List ℕ) (place : Place) → 210 ≤ length buffer
+    → s .till .pending ≡ till.waits seq code bytes 5 place → fails seq code place h ≡ true
+    → (r : Outcome) → ByTheTable s (atTill buffer h) r → r ≡ fromTill (replies 9 (Unfinished 5) 5 [] buffer (atRest (s .till)))
+the-fifth-failed-try s buffer h seq code bytes place room e f r b =
+    the-reply-is-the-only-one s (atTill buffer h) r (fromTill (replies 9 (Unfinished 5) 5 [] buffer (atRest (s .till)))) b (at-till (row-9 seq code bytes place room e f))
