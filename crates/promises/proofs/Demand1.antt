@@ -56,13 +56,16 @@ only-these s cs rs (then {c = c} {r = r} {cs = later} {rs = rest} b all) =
 pub the-replies-are-the-only-ones : (s : Bench) (cs : List Comes) (rs others : List Outcome) → AllByTheTable s cs rs → AllByTheTable s cs others → rs ≡ others
 the-replies-are-the-only-ones s cs rs others a b = only-these s cs rs a ∙ sym (only-these s cs others b)
 
--- existence: from any state with sound books and at most five tries
-pub the-reply-is-by-the-table : (s : Bench) → sound (s .device .books) ≡ true → till-rows.triesOf (s .till .pending) ≤ 5 → (c : Comes) → ByTheTable s c (replyOf s c)
-the-reply-is-by-the-table s e few (atDevice buffer byte) =
+-- existence: at the device where its books are sound, at the till end where at most five tries were made
+pub by-the-device : (s : Bench) → sound (s .device .books) ≡ true → (buffer : List ℕ) (byte : ℕ) → ByTheTable s (atDevice buffer byte) (replyOf s (atDevice buffer byte))
+by-the-device s e buffer byte =
     at-device
     (subst (λ t. ByDevice (s .device) buffer byte (ofDevice buffer t)) (sym (device-rows.as-the-table (s .device) e (length buffer) byte))
     (device-rows.has-its-row (s .device) buffer byte))
-the-reply-is-by-the-table s e few (atTill buffer h) = at-till (till-rows.has-its-row (s .till) buffer h few)
+
+pub by-the-till-end : (s : Bench) → till-rows.triesOf (s .till .pending) ≤ 5 → (buffer : List ℕ) (h : till.Happening)
+    → ByTheTable s (atTill buffer h) (replyOf s (atTill buffer h))
+by-the-till-end s few buffer h = at-till (till-rows.has-its-row (s .till) buffer h few)
 
 -- which every event leaves: the books are such as a fresh device comes to
 deed-stays : (b : Books) (p : Parsed) → Reached b → Reached (deedFor b p .books)
@@ -134,9 +137,13 @@ pub proper-stays : (s : Bench) → Proper s → (c : Comes) → Proper (benchAft
 proper-stays s p (atDevice buffer byte) = record { books = turn-stays (length buffer) (s .device) byte (p .books); tries = p .tries }
 proper-stays s p (atTill buffer h) = record { books = p .books; tries = tries-stay (length buffer) (s .till) h (p .tries) }
 
+by-both : (s : Bench) → Proper s → (c : Comes) → ByTheTable s c (replyOf s c)
+by-both s p (atDevice buffer byte) = by-the-device s (p .books .fits) buffer byte
+by-both s p (atTill buffer h) = by-the-till-end s (p .tries) buffer h
+
 from-proper : (s : Bench) → Proper s → (cs : List Comes) → AllByTheTable s cs (repliesOf s cs)
 from-proper s p [] = no-more
-from-proper s p (c ∷ cs) = then (the-reply-is-by-the-table s (p .books .fits) (p .tries) c) (from-proper (benchAfter s (replyOf s c)) (proper-stays s p c) cs)
+from-proper s p (c ∷ cs) = then (by-both s p c) (from-proper (benchAfter s (replyOf s c)) (proper-stays s p c) cs)
 
 -- the theorem: over every history of fresh ends each event has its reply by the table, the one that the ends give
 pub every-event-has-its-reply : (cs : List Comes) → AllByTheTable freshBench cs (repliesOf freshBench cs)

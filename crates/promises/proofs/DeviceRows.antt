@@ -50,7 +50,7 @@ module _ (s : State Books) where
   ordered next m k =
       record { number = k .number; gives = k .answer; carried = m ∷ []; state = record { place = next; before = was (m .seq) (m .code) (k .answer); books = k .books } }
 
-  abbrev order : Place → Message → Deed → Turn Books
+  abbrev pub order : Place → Message → Deed → Turn Books
   order next m d = ordered next m (carriedAs (s .books) (m .seq) (m .code) d)
 
   abbrev reasoned : kinds.Command → Bool → Bool → Deed

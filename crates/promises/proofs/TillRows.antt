@@ -54,7 +54,7 @@ module _ (buffer : List ℕ) (room : 210 ≤ length buffer) where
   sending next code content true e = row-0-sent code content (frame Command (commandOf next code content)) room (ap not e) refl
   sending next code content false e = row-8 code content room (ap not e)
 
-  taking : (next : ℕ) (p : till.Pending) → triesOf p ≤ 5 → (h : till.Happening)
+  pub taking : (next : ℕ) (p : till.Pending) → triesOf p ≤ 5 → (h : till.Happening)
       → ByTill (record { next = next; pending = p }) buffer h (ofTill buffer (till.takes (record { next = next; pending = p }) h))
   taking next till.idle few (till.command code content) = sending next code content (sendable Command (commandOf next code content)) refl
   taking next till.idle few (till.byte b) = row-0-idle room refl refl
