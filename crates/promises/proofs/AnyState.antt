@@ -26,7 +26,7 @@ use Rattle.promises.specs.AtDevice.{reads, NewFrame, row-0-taken, row-1,
 use Rattle.promises.specs.AtTill.{isFailed, fails, row-0-byte, row-0-answered, row-8}
 use Rattle.promises.specs.AtTill as at-till-end
 use Rattle.promises.specs.Demand1.{Bench, Comes, atDevice, atTill, fromDevice, fromTill, Outcome, ByTheTable, at-device, at-till}
-use Rattle.promises.specs.Ends.{ofDevice, ofTill, replyOf, Beyond, unsound-books, more-tries}
+use Rattle.promises.specs.Ends.{ofDevice, ofTill, outcomeOf, Beyond, unsound-books, more-tries}
 use Rattle.promises.proofs.DeviceRows.{short7, again, order, ordered}
 use Rattle.promises.proofs.TillRows.{triesOf, taking}
 use Rattle.promises.proofs.Demand1.{by-the-device}
@@ -59,7 +59,7 @@ module _ (s : Bench) (bad : sound (s .device .books) ≡ false) (buffer : List �
       go true f = inl (at-device (row-6 m room e f))
       go false f = by-kind m (record { room = room; whole = e; new = f }) (parsedOf (m .code) (m .content)) refl
 
-  unsound : Says s (atDevice buffer byte) (replyOf s (atDevice buffer byte))
+  unsound : Says s (atDevice buffer byte) (outcomeOf s (atDevice buffer byte))
   unsound = go (ltb (length buffer) 217) refl
     where
       go : (short : Bool) → ltb (length buffer) 217 ≡ short
@@ -103,10 +103,10 @@ module _ (d : line.State Books) (buffer : List ℕ) (room : 210 ≤ length buffe
       go false e = beyond-five next seq code bytes tries place (leb-false tries 5 e) h
 
 -- the theorem
-pub in-any-state : (s : Bench) (c : Comes) → ByTheTable s c (replyOf s c) ⊎ Beyond s c (replyOf s c)
+pub in-any-state : (s : Bench) (c : Comes) → ByTheTable s c (outcomeOf s c) ⊎ Beyond s c (outcomeOf s c)
 in-any-state s (atDevice buffer byte) = go (sound (s .device .books)) refl
   where
-    go : (fit : Bool) → sound (s .device .books) ≡ fit → Says s (atDevice buffer byte) (replyOf s (atDevice buffer byte))
+    go : (fit : Bool) → sound (s .device .books) ≡ fit → Says s (atDevice buffer byte) (outcomeOf s (atDevice buffer byte))
     go true e = inl (by-the-device s e buffer byte)
     go false e = unsound s e buffer byte
 in-any-state s (atTill buffer h) = go (ltb (length buffer) 210) refl

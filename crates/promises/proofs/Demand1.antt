@@ -26,7 +26,7 @@ use Rattle.till.proofs.Seeing.{failsBy}
 use Rattle.promises.specs.AtDevice.{FromDevice, ByDevice}
 use Rattle.promises.specs.AtTill.{replies, fails, atRest, row-9}
 use Rattle.promises.specs.Demand1.{Bench, freshBench, Comes, atDevice, atTill, Outcome, fromDevice, fromTill, benchAfter, ByTheTable, at-device, at-till, AllByTheTable, no-more, then}
-use Rattle.promises.specs.Ends.{ofDevice, ofTill, replyOf, repliesOf}
+use Rattle.promises.specs.Ends.{ofDevice, ofTill, outcomeOf, outcomesOf}
 use Rattle.promises.proofs.DeviceRows as device-rows
 use Rattle.promises.proofs.TillRows as till-rows
 
@@ -57,23 +57,23 @@ pub the-replies-are-the-only-ones : (s : Bench) (cs : List Comes) (rs others : L
 the-replies-are-the-only-ones s cs rs others a b = only-these s cs rs a ∙ sym (only-these s cs others b)
 
 -- existence: at the device where its books are sound, at the till end where at most five tries were made
-pub by-the-device : (s : Bench) → sound (s .device .books) ≡ true → (buffer : List ℕ) (byte : ℕ) → ByTheTable s (atDevice buffer byte) (replyOf s (atDevice buffer byte))
+pub by-the-device : (s : Bench) → sound (s .device .books) ≡ true → (buffer : List ℕ) (byte : ℕ) → ByTheTable s (atDevice buffer byte) (outcomeOf s (atDevice buffer byte))
 by-the-device s e buffer byte =
     at-device
     (subst (λ t. ByDevice (s .device) buffer byte (ofDevice buffer t)) (sym (device-rows.as-the-table (s .device) e (length buffer) byte))
     (device-rows.has-its-row (s .device) buffer byte))
 
 pub by-the-till-end : (s : Bench) → till-rows.triesOf (s .till .pending) ≤ 5 → (buffer : List ℕ) (h : till.Happening)
-    → ByTheTable s (atTill buffer h) (replyOf s (atTill buffer h))
+    → ByTheTable s (atTill buffer h) (outcomeOf s (atTill buffer h))
 by-the-till-end s few buffer h = at-till (till-rows.has-its-row (s .till) buffer h few)
 
 -- which every event leaves: the books are such as a fresh device comes to
-deed-stays : (b : Books) (p : Parsed) → Reached b → Reached (deedFor b p .books)
+pub deed-stays : (b : Books) (p : Parsed) → Reached b → Reached (deedFor b p .books)
 deed-stays b (Read c) r = reached-stays b c r
 deed-stays b Syntax r = r
 deed-stays b Unknown r = r
 
-event-stays : (s : line.State Books) (next : Place) (e : Event) → Reached (s .books) → Reached (line.onEvent carry s next e .state .books)
+pub event-stays : (s : line.State Books) (next : Place) (e : Event) → Reached (s .books) → Reached (line.onEvent carry s next e .state .books)
 event-stays s next nothing r = r
 event-stays s next brokenFrame r = r
 event-stays s next (heard m) r = go (line.repeats (s .before) m)
@@ -133,25 +133,25 @@ pub record Proper (s : Bench) : Type 0 where
 pub fresh-proper : Proper freshBench
 fresh-proper = record { books = fresh-reached; tries = omega arith }
 
-pub proper-stays : (s : Bench) → Proper s → (c : Comes) → Proper (benchAfter s (replyOf s c))
+pub proper-stays : (s : Bench) → Proper s → (c : Comes) → Proper (benchAfter s (outcomeOf s c))
 proper-stays s p (atDevice buffer byte) = record { books = turn-stays (length buffer) (s .device) byte (p .books); tries = p .tries }
 proper-stays s p (atTill buffer h) = record { books = p .books; tries = tries-stay (length buffer) (s .till) h (p .tries) }
 
-by-both : (s : Bench) → Proper s → (c : Comes) → ByTheTable s c (replyOf s c)
+by-both : (s : Bench) → Proper s → (c : Comes) → ByTheTable s c (outcomeOf s c)
 by-both s p (atDevice buffer byte) = by-the-device s (p .books .fits) buffer byte
 by-both s p (atTill buffer h) = by-the-till-end s (p .tries) buffer h
 
-from-proper : (s : Bench) → Proper s → (cs : List Comes) → AllByTheTable s cs (repliesOf s cs)
+from-proper : (s : Bench) → Proper s → (cs : List Comes) → AllByTheTable s cs (outcomesOf s cs)
 from-proper s p [] = no-more
-from-proper s p (c ∷ cs) = then (by-both s p c) (from-proper (benchAfter s (replyOf s c)) (proper-stays s p c) cs)
+from-proper s p (c ∷ cs) = then (by-both s p c) (from-proper (benchAfter s (outcomeOf s c)) (proper-stays s p c) cs)
 
 -- the theorem: over every history of fresh ends each event has its reply by the table, the one that the ends give
-pub every-event-has-its-reply : (cs : List Comes) → AllByTheTable freshBench cs (repliesOf freshBench cs)
+pub every-event-has-its-reply : (cs : List Comes) → AllByTheTable freshBench cs (outcomesOf freshBench cs)
 every-event-has-its-reply cs = from-proper freshBench fresh-proper cs
 
 -- so that whatever is by the table is what the ends give
-pub no-other-replies : (cs : List Comes) (rs : List Outcome) → AllByTheTable freshBench cs rs → rs ≡ repliesOf freshBench cs
-no-other-replies cs rs all = the-replies-are-the-only-ones freshBench cs rs (repliesOf freshBench cs) all (every-event-has-its-reply cs)
+pub no-other-replies : (cs : List Comes) (rs : List Outcome) → AllByTheTable freshBench cs rs → rs ≡ outcomesOf freshBench cs
+no-other-replies cs rs all = the-replies-are-the-only-ones freshBench cs rs (outcomesOf freshBench cs) all (every-event-has-its-reply cs)
 
 -- "After the fifth failed try the till end says Unfinished, never an answer": the table leaves it no other reply
 pub the-fifth-failed-try : (s : Bench) (buffer : List ℕ) (h : till.Happening) (seq code : ℕ) (bytes : List ℕ) (place : Place) → 210 ≤ length buffer

@@ -4,6 +4,8 @@ pub mod TillRows
 pub mod Demand1
 pub mod AnyState
 pub mod Rows
+pub mod Sizes
+pub mod Coded
 pub mod Joining
 pub mod Demand2
 pub mod Demand3

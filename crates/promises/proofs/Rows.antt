@@ -12,7 +12,7 @@ use Rattle.till.specs.Turns.{Happening, command, byte, timeout}
 use Rattle.till.specs.declared.Word.{Word}
 use Rattle.till.specs.declared.Word.the-variants.{Idle, Waiting, SendAgain, Answered, Unfinished, TooShort, NotSent}
 use Rattle.promises.specs.Demand1.{Bench, freshBench, Comes, atDevice, atTill, Outcome, fromDevice, fromTill}
-use Rattle.promises.specs.Ends.{repliesOf}
+use Rattle.promises.specs.Ends.{outcomesOf}
 
 -- bytes to the device, with 217 lent; a command to it; bytes of an answer to the till end, with 210 lent
 abbrev heard : List ℕ → List Comes
@@ -41,7 +41,7 @@ words (fromDevice r ∷ rs) = words rs
 words (fromTill r ∷ rs) = r .word ∷ words rs
 
 -- 74 with data is syntax, and then a repeat; 75 is unknown; 51 needs an open receipt, which 48 opens; `Tab A99999999*2` passes 999999.99
-pub every-row-of-the-device-is-met : numbers (repliesOf freshBench (
+pub every-row-of-the-device-is-met : numbers (outcomesOf freshBench (
     (atDevice [] 0x01 ∷ heard (0x01 ∷ 0x02 ∷ []))
     ++ asks 0x20 74 (0x30 ∷ []) ++ asks 0x20 74 (0x30 ∷ []) ++ asks 0x21 75 [] ++ asks 0x22 51 (0x30 ∷ 0x30 ∷ [])
     ++ asks 0x23 48 (0x31 ∷ 0x2C ∷ 0x30 ∷ 0x30 ∷ 0x30 ∷ 0x30 ∷ 0x2C ∷ 0x31 ∷ [])
@@ -51,7 +51,7 @@ unfolding digits number
 every-row-of-the-device-is-met = refl
 
 -- 74 is answered as document 01's case 2 has it; the next one is never answered
-pub every-row-of-the-till-end-is-met : words (repliesOf freshBench (
+pub every-row-of-the-till-end-is-met : words (outcomesOf freshBench (
     (atTill [] timeout ∷ told timeout ∷ told (command 74 []) ∷ told (command 74 []) ∷ [])
     ++ answering (0x01 ∷ 0x31 ∷ 0x20 ∷ 0x4A ∷ 0x80 ∷ 0x80 ∷ 0x80 ∷ 0x80 ∷ 0x86 ∷ 0x9A ∷ 0x04 ∷ 0x80 ∷ 0x80 ∷ 0x80 ∷ 0x80 ∷ 0x86 ∷ 0x9A ∷ 0x05 ∷ 0x30 ∷ 0x36 ∷ 0x3E ∷ 0x34 ∷ 0x03 ∷ [])
     ++ told (command 74 []) ∷ replicate 5 (told timeout)))

@@ -24,18 +24,18 @@ ofDevice buffer t = tells (t .number) (t .gives) buffer (t .state)
 abbrev pub ofTill : List ℕ → till.Turn → FromTill
 ofTill buffer t = replies (numberOf (t .word)) (t .word) (countOf (t .word)) (t .puts) buffer (t .state)
 
-abbrev pub replyOf : Bench → Comes → Outcome
-replyOf s (atDevice buffer byte) = fromDevice (ofDevice buffer (lentTurn (length buffer) (s .device) byte))
-replyOf s (atTill buffer h) = fromTill (ofTill buffer (till.hears (length buffer) (s .till) h))
+abbrev pub outcomeOf : Bench → Comes → Outcome
+outcomeOf s (atDevice buffer byte) = fromDevice (ofDevice buffer (lentTurn (length buffer) (s .device) byte))
+outcomeOf s (atTill buffer h) = fromTill (ofTill buffer (till.hears (length buffer) (s .till) h))
 
 -- the replies of a history, and both ends behind it
-abbrev pub repliesOf : Bench → List Comes → List Outcome
-repliesOf s [] = []
-repliesOf s (c ∷ cs) = replyOf s c ∷ repliesOf (benchAfter s (replyOf s c)) cs
+abbrev pub outcomesOf : Bench → List Comes → List Outcome
+outcomesOf s [] = []
+outcomesOf s (c ∷ cs) = outcomeOf s c ∷ outcomesOf (benchAfter s (outcomeOf s c)) cs
 
 abbrev pub behindAll : Bench → List Comes → Bench
 behindAll s [] = s
-behindAll s (c ∷ cs) = behindAll (benchAfter s (replyOf s c)) cs
+behindAll s (c ∷ cs) = behindAll (benchAfter s (outcomeOf s c)) cs
 
 -- what no history of fresh ends comes to, where the reply is not the table's: books that are not sound refuse with 4 whatever they are asked, and stay; tries
 -- above five count as the fifth
