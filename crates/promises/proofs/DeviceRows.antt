@@ -63,36 +63,7 @@ module _ (s : State Books) where
     abbrev next : Place
     next = reads s byte .place
 
-    -- every byte has its row
-    by-reasons : (m : Message) (c : kinds.Command) → NewCommand s buffer byte m c → (for3 for4 : Bool) → three (s .books) c ≡ for3 → four (s .books) c ≡ for4
-        → ByDevice s buffer byte (ofDevice buffer (order next m (reasoned c for3 for4)))
-    by-reasons m c n true for4 e3 e4 = row-3 m c n e3
-    by-reasons m c n false true e3 e4 = row-4 m c n e3 e4
-    by-reasons m c n false false e3 e4 = row-0-done m c n e3 e4
-
-    by-kind : (m : Message) → NewFrame s buffer byte m → (p : Parsed) → parsedOf (m .code) (m .content) ≡ p
-        → ByDevice s buffer byte (ofDevice buffer (order next m (tableDeed (s .books) p)))
-    by-kind m n Syntax e = row-1 m n e
-    by-kind m n Unknown e = row-2 m n e
-    by-kind m n (Read c) e = by-reasons m c (record { frame = n; kind = e }) (three (s .books) c) (four (s .books) c) refl refl
-
-    by-event : 217 ≤ length buffer → (e : Event) → reads s byte .event ≡ e → ByDevice s buffer byte (ofDevice buffer (onEvent tableCarry s next e))
-    by-event room nothing e = row-0-taken room e
-    by-event room brokenFrame e = row-5 room e
-    by-event room (heard m) e = go (repeats (s .before) m) refl
-      where
-        go : (repeat : Bool) → repeats (s .before) m ≡ repeat → ByDevice s buffer byte (ofDevice buffer (cond repeat (again next) (ordered next m (tableCarry (s .books) m))))
-        go true f = row-6 m room e f
-        go false f = by-kind m (record { room = room; whole = e; new = f }) (parsedOf (m .code) (m .content)) refl
-
-    pub has-its-row : ByDevice s buffer byte (ofDevice buffer (tableTurn (length buffer) byte))
-    has-its-row = go (ltb (length buffer) 217) refl
-      where
-        go : (short : Bool) → ltb (length buffer) 217 ≡ short → ByDevice s buffer byte (ofDevice buffer (cond short short7 (turn tableCarry s byte)))
-        go true e = row-7 (ltb-true (length buffer) 217 e)
-        go false e = by-event (ltb-false (length buffer) 217 e) (reads s byte .event) refl
-
-    -- and no other
+    -- a reply by the table is this one
     abbrev atLength : Bool → FromDevice
     atLength short = ofDevice buffer (cond short short7 (turn tableCarry s byte))
 
@@ -128,6 +99,35 @@ module _ (s : State Books) where
     only-row r (row-5 room e) = sym (long room brokenFrame e)
     only-row r (row-6 m room e f) = sym (long room (heard m) e ∙ ap (atRepeat m) f)
     only-row r (row-7 short) = sym (ap atLength (lt-ltb (length buffer) 217 short))
+
+    -- and every byte has its row
+    by-reasons : (m : Message) (c : kinds.Command) → NewCommand s buffer byte m c → (for3 for4 : Bool) → three (s .books) c ≡ for3 → four (s .books) c ≡ for4
+        → ByDevice s buffer byte (ofDevice buffer (order next m (reasoned c for3 for4)))
+    by-reasons m c n true for4 e3 e4 = row-3 m c n e3
+    by-reasons m c n false true e3 e4 = row-4 m c n e3 e4
+    by-reasons m c n false false e3 e4 = row-0-done m c n e3 e4
+
+    by-kind : (m : Message) → NewFrame s buffer byte m → (p : Parsed) → parsedOf (m .code) (m .content) ≡ p
+        → ByDevice s buffer byte (ofDevice buffer (order next m (tableDeed (s .books) p)))
+    by-kind m n Syntax e = row-1 m n e
+    by-kind m n Unknown e = row-2 m n e
+    by-kind m n (Read c) e = by-reasons m c (record { frame = n; kind = e }) (three (s .books) c) (four (s .books) c) refl refl
+
+    by-event : 217 ≤ length buffer → (e : Event) → reads s byte .event ≡ e → ByDevice s buffer byte (ofDevice buffer (onEvent tableCarry s next e))
+    by-event room nothing e = row-0-taken room e
+    by-event room brokenFrame e = row-5 room e
+    by-event room (heard m) e = go (repeats (s .before) m) refl
+      where
+        go : (repeat : Bool) → repeats (s .before) m ≡ repeat → ByDevice s buffer byte (ofDevice buffer (cond repeat (again next) (ordered next m (tableCarry (s .books) m))))
+        go true f = row-6 m room e f
+        go false f = by-kind m (record { room = room; whole = e; new = f }) (parsedOf (m .code) (m .content)) refl
+
+    pub has-its-row : ByDevice s buffer byte (ofDevice buffer (tableTurn (length buffer) byte))
+    has-its-row = go (ltb (length buffer) 217) refl
+      where
+        go : (short : Bool) → ltb (length buffer) 217 ≡ short → ByDevice s buffer byte (ofDevice buffer (cond short short7 (turn tableCarry s byte)))
+        go true e = row-7 (ltb-true (length buffer) 217 e)
+        go false e = by-event (ltb-false (length buffer) 217 e) (reads s byte .event) refl
 
 -- the device's own turn, where its books are sound
 carried-by : (b : Books) → sound b ≡ true → (p : Parsed) → Right p → deedFor b p ≡ tableDeed b p
