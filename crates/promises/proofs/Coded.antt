@@ -47,14 +47,14 @@ use Rattle.promises.specs.Coded.{Handed, Fresh, benchOf, CodeCall, hear,
 use Rattle.promises.proofs.Demand1.{by-the-device, by-the-till-end, deed-stays, event-stays, tries-stay}
 use Rattle.promises.proofs.DeviceRows.{again, ordered, short7}
 use Rattle.promises.proofs.TillRows.{triesOf}
-use Rattle.promises.proofs.Sizes.{Short, short-few, short-read, Sized, turn-fits, answer-length}
+use Rattle.promises.proofs.Sizes.{Underway, underway-few, underway-read, Sized, turn-fits, answer-length}
 
 -- the device's fields and arrays, at the sizes that their types give, with books that a fresh device comes to
 record DeviceOk (l : Line) (b : Books) (frame last : List ℕ) : Type 0 where
   small : l .reader .count < 256
   frames : length frame ≡ 256
   lasts : length last ≡ 217
-  short : Short Command (placeOf (l .reader) frame)
+  short : Underway Command (placeOf (l .reader) frame)
   reached : Reached b
 
 -- at most 217 bytes are given back: an answer, or the last one
@@ -111,8 +111,8 @@ module _ (l : Line) (b : Books) (frame last : List ℕ) (ok : DeviceOk l b frame
           subst (λ z. device.stateOf (after z .given .line) (after z .given .books) (after z .frame) (after z .last) ≡ turned z .state) is
           (state-back l b frame last (ok .lasts) x (ok .small) (ok .frames) (few-given (at .place) (at .event)))
 
-      short-now : Short Command (turned e .state .place)
-      short-now = subst (Short Command) (sym (goes-to (at .place) e)) (short-read Command (here .place) x (ok .short))
+      short-now : Underway Command (turned e .state .place)
+      short-now = subst (Underway Command) (sym (goes-to (at .place) e)) (underway-read Command (here .place) x (ok .short))
 
       count-is : (p : Place) → readerOf p .count ≡ length (bytesOf p)
       count-is outside = refl
@@ -121,10 +121,10 @@ module _ (l : Line) (b : Books) (frame last : List ℕ) (ok : DeviceOk l b frame
       ok-after : DeviceOk (after e .given .line) (after e .given .books) (after e .frame) (after e .last)
       ok-after =
           record {
-            small = subst (λ n. n < 256) (sym (count-is (turned e .state .place))) (short-few Command (turned e .state .place) short-now);
+            small = subst (λ n. n < 256) (sym (count-is (turned e .state .place))) (underway-few Command (turned e .state .place) short-now);
             frames = kept-length frame (turned e .state .place) ∙ ok .frames;
             lasts = last-kept (turned e .gives) (turned e .carried);
-            short = subst (Short Command) (sym (ap (λ (s : line.State Books). s .place) back)) short-now;
+            short = subst (Underway Command) (sym (ap (λ (s : line.State Books). s .place) back)) short-now;
             reached = event-stays here (at .place) e (ok .reached);
           }
 
@@ -155,7 +155,7 @@ module _ (t : till.State) (buffer : List ℕ) (room : 217 ≤ length buffer) whe
   asked l b frame last ok x bytes e call is some =
       record {
         reply = ofDevice buffer (turned l b frame last ok x buffer e);
-        by = asking-byte (subst (λ z. asks z ≡ true) (sym is) some) (by-event l b frame last ok x buffer e is room t);
+        by = asking-byte room (subst (λ z. asks z ≡ true) (sym is) some) (by-event l b frame last ok x buffer e is room t);
         result = result l b frame last ok x buffer e is room t call;
         ok = ok-after l b frame last ok x buffer e is;
       }
@@ -186,7 +186,7 @@ module _ (t : till.State) (buffer : List ℕ) (room : 217 ≤ length buffer) whe
           record {
             reply = rest .reply;
             by =
-                quiet-byte (ap asks is) (by-event l b frame last ok x buffer nothing is room t) refl
+                quiet-byte room (ap asks is) (by-event l b frame last ok x buffer nothing is room t)
                 (subst (λ s. PartByTheTable buffer (record { device = s; till = t }) xs
                 (hearing (a nothing .given .line) (a nothing .given .books) (a nothing .frame) (a nothing .last) buffer xs .hearing .taken) (rest .reply))
                 (back l b frame last ok x buffer nothing is) (rest .by));
@@ -274,7 +274,7 @@ bytes-of s z = go (s .pending) z
     go : (p : till.Pending) → Sized p → Bytes (fields.tillOf (record { next = s .next; pending = p }) .sent)
     go till.idle z = tt
     go (till.waits seq code bytes tries outside) z = (omega (arith, z .0), omega arith)
-    go (till.waits seq code bytes tries (inside sum read)) z = (omega (arith, z .0), short-few Answer (inside sum read) (z .1))
+    go (till.waits seq code bytes tries (inside sum read)) z = (omega (arith, z .0), underway-few Answer (inside sum read) (z .1))
 
 framed-length : (array : List ℕ) (p : till.Pending) → length (fields.framed array p) ≡ length array
 framed-length array till.idle = refl

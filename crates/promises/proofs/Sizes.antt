@@ -22,41 +22,41 @@ use Rattle.till.proofs.Answers.{answers-heard}
 use Rattle.till.proofs.Seeing.{failsBy, goes-place}
 
 -- a frame that is being read: LEN in its range, and fewer bytes behind it than it announces
-abbrev pub Short : Kind → Place → Type 0
-Short k outside = Unit {0}
-Short k (inside sum []) = Unit {0}
-Short k (inside sum (len ∷ rest)) = (len ≤ longest k) × (length rest ≤ length (front k (dataCount k len)) + 4)
+abbrev pub Underway : Kind → Place → Type 0
+Underway k outside = Unit {0}
+Underway k (inside sum []) = Unit {0}
+Underway k (inside sum (len ∷ rest)) = (len ≤ longest k) × (length rest ≤ length (front k (dataCount k len)) + 4)
 
 few-behind : (k : Kind) → length (behindData k) ≤ 7
 few-behind Command = omega arith
 few-behind Answer = omega arith
 
-pub short-few : (k : Kind) (p : Place) → Short k p → length (bytesOf p) < 256
-short-few k outside h = omega arith
-short-few k (inside sum []) h = omega arith
-short-few k (inside sum (len ∷ rest)) h = omega (arith, h .0, h .1, length-front k (dataCount k len), few-behind k)
+pub underway-few : (k : Kind) (p : Place) → Underway k p → length (bytesOf p) < 256
+underway-few k outside h = omega arith
+underway-few k (inside sum []) h = omega arith
+underway-few k (inside sum (len ∷ rest)) h = omega (arith, h .0, h .1, length-front k (dataCount k len), few-behind k)
 
 module _ (k : Kind) where
-  goes-short : (sum b : ℕ) (bytes : List ℕ) → Short k (inside sum bytes) → (fit last : Bool) → suits k sum bytes b ≡ fit → atLast k bytes ≡ last
-      → Short k (goesOn (cond fit (cond last whole beginning) broken) (inside (grown k sum bytes b) (bytes ++ b ∷ [])) (message k bytes) .place)
-  goes-short sum b bytes h false last es el = tt
-  goes-short sum b bytes h true true es el = tt
-  goes-short sum b [] h true false es el = (leb-true b (longest k) (both (leb (shortest k) b) (leb b (longest k)) es .1), omega arith)
-  goes-short sum b (len ∷ rest) h true false es el =
+  goes-underway : (sum b : ℕ) (bytes : List ℕ) → Underway k (inside sum bytes) → (fit last : Bool) → suits k sum bytes b ≡ fit → atLast k bytes ≡ last
+      → Underway k (goesOn (cond fit (cond last whole beginning) broken) (inside (grown k sum bytes b) (bytes ++ b ∷ [])) (message k bytes) .place)
+  goes-underway sum b bytes h false last es el = tt
+  goes-underway sum b bytes h true true es el = tt
+  goes-underway sum b [] h true false es el = (leb-true b (longest k) (both (leb (shortest k) b) (leb b (longest k)) es .1), omega arith)
+  goes-underway sum b (len ∷ rest) h true false es el =
       (h .0, go (decLt (length rest) (length (front k (dataCount k len)) + 4)))
     where
       go : Dec (length rest < length (front k (dataCount k len)) + 4) → length (rest ++ b ∷ []) ≤ length (front k (dataCount k len)) + 4
       go (yes less) = omega (arith, less, length-append rest (b ∷ []))
       go (no n) = absurd (eqb-false (length rest) (length (front k (dataCount k len)) + 4) el (omega (arith, h .1, n)))
 
-  pub short-read : (p : Place) (b : ℕ) → Short k p → Short k (read k p b .place)
-  short-read p b h = go (eqb b 0x01)
+  pub underway-read : (p : Place) (b : ℕ) → Underway k p → Underway k (read k p b .place)
+  underway-read p b h = go (eqb b 0x01)
     where
-      other : (q : Place) → Short k q → Short k (readOther k q b .place)
+      other : (q : Place) → Underway k q → Underway k (readOther k q b .place)
       other outside s = tt
-      other (inside sum bytes) s = goes-short sum b bytes s (suits k sum bytes b) (atLast k bytes) refl refl
+      other (inside sum bytes) s = goes-underway sum b bytes s (suits k sum bytes b) (atLast k bytes) refl refl
 
-      go : (start : Bool) → Short k (cond start (record { place = inside 0 []; event = startsAnew p }) (readOther k p b) .place)
+      go : (start : Bool) → Underway k (cond start (record { place = inside 0 []; event = startsAnew p }) (readOther k p b) .place)
       go true = tt
       go false = other p h
 
@@ -66,16 +66,16 @@ Brief nothing = Unit {0}
 Brief brokenFrame = Unit {0}
 Brief (heard m) = length (m .content ++ m .status) ≤ 206
 
-brief-message : (sum : ℕ) (bytes : List ℕ) → Short Answer (inside sum bytes) → length (message Answer bytes .content ++ message Answer bytes .status) ≤ 206
+brief-message : (sum : ℕ) (bytes : List ℕ) → Underway Answer (inside sum bytes) → length (message Answer bytes .content ++ message Answer bytes .status) ≤ 206
 brief-message sum bytes h =
     let n : ℕ = dataCount Answer (getD bytes 0 0) in
     omega (arith, length-append (take n (drop 3 bytes)) (take 6 (drop (4 + n) bytes)), length-take n (drop 3 bytes), length-take 6 (drop (4 + n) bytes), announced bytes h)
   where
-    announced : (bytes : List ℕ) → Short Answer (inside sum bytes) → dataCount Answer (getD bytes 0 0) ≤ 200
+    announced : (bytes : List ℕ) → Underway Answer (inside sum bytes) → dataCount Answer (getD bytes 0 0) ≤ 200
     announced [] h = omega arith
     announced (len ∷ rest) h = omega (arith, h .0)
 
-brief-read : (p : Place) (b : ℕ) → Short Answer p → Brief (read Answer p b .event)
+brief-read : (p : Place) (b : ℕ) → Underway Answer p → Brief (read Answer p b .event)
 brief-read p b h = go (eqb b 0x01)
   where
     anew : (q : Place) → Brief (startsAnew q)
@@ -83,12 +83,12 @@ brief-read p b h = go (eqb b 0x01)
     anew (inside sum []) = tt
     anew (inside sum (x ∷ xs)) = tt
 
-    by : (sum : ℕ) (bytes : List ℕ) → Short Answer (inside sum bytes) → (st : Standing) (next : Place) → Brief (goesOn st next (message Answer bytes) .event)
+    by : (sum : ℕ) (bytes : List ℕ) → Underway Answer (inside sum bytes) → (st : Standing) (next : Place) → Brief (goesOn st next (message Answer bytes) .event)
     by sum bytes s broken next = tt
     by sum bytes s beginning next = tt
     by sum bytes s whole next = brief-message sum bytes s
 
-    other : (q : Place) → Short Answer q → Brief (readOther Answer q b .event)
+    other : (q : Place) → Underway Answer q → Brief (readOther Answer q b .event)
     other outside s = tt
     other (inside sum bytes) s = by sum bytes s (cond (suits Answer sum bytes b) (cond (atLast Answer bytes) whole beginning) broken) (inside (grown Answer sum bytes b) (bytes ++ b ∷ []))
 
@@ -99,7 +99,7 @@ brief-read p b h = go (eqb b 0x01)
 -- what waits at the till end: a frame of 210 bytes at most, and its answer in reading
 abbrev pub Sized : till.Pending → Type 0
 Sized till.idle = Unit {0}
-Sized (till.waits seq code bytes tries place) = (length bytes ≤ 210) × Short Answer place
+Sized (till.waits seq code bytes tries place) = (length bytes ≤ 210) × Underway Answer place
 
 -- and what an event leaves waiting, and puts in the lent buffer
 pub record Fitting-turn (t : till.Turn) : Type 0 where
@@ -117,7 +117,7 @@ meaning : (next seq code : ℕ) (bytes : List ℕ) (tries : ℕ) (place : Place)
     → till.byteMeans seq code place b ≡ x → Fitting-turn (till.onMeaning next seq code bytes tries x)
 meaning next seq code bytes tries place b h till.failed e = failing next seq code bytes tries (h .0)
 meaning next seq code bytes tries place b h (till.goesOn q) e =
-    record { leaves = (h .0, subst (Short Answer) (sym (goes-place seq code place b q e)) (short-read Answer place b (h .1))); puts = omega arith }
+    record { leaves = (h .0, subst (Underway Answer) (sym (goes-place seq code place b q e)) (underway-read Answer place b (h .1))); puts = omega arith }
 meaning next seq code bytes tries place b h (till.answers m) e =
     let brief : length (m .content ++ m .status) ≤ 206 = subst Brief (answers-heard seq code place b m e .hears) (brief-read place b (h .1)) in
     record { leaves = tt; puts = omega (arith, brief) }
