@@ -2,7 +2,7 @@
 -- 4, and otherwise its effect. 49, 53 and 60 are judged by the receipt, whose verdicts are sorted here.
 use mathlib.Core.Path.{_≡_, refl}
 use mathlib.Core.Bool.{Bool, true, false, cond, not, _&&_, _||_, false≢true}
-use Prim.Native.Nat.{ℕ, _+_, min}
+use Prim.Native.Nat.{_+_, min}
 use lib.Dec.{ltb}
 use Rattle.kinds.specs.declared.Command.{Command}
 use Rattle.kinds.specs.declared.Command.the-variants.{OpenText, CloseText, PrintText, Open, Sell, Subtotal, Pay, Close, Cancel, Sums, Closing, Drawer, Status, Rates}
@@ -15,7 +15,6 @@ use Rattle.receipt.specs.declared.Sold.{Sold}
 use Rattle.books.specs.Groups.{at}
 use Rattle.books.specs.Rates.{rateOf, isEnabled}
 use Rattle.books.specs.declared.Books.{Books}
-use Rattle.deeds.specs.declared.Deed.{Deed}
 use Rattle.deeds.specs.Reasons.{noneOpen, owed, tendered, registerOf}
 use Rattle.deeds.specs.Effects.{effect, shows}
 use Rattle.deeds.specs.Deeds.{done, judged, soldAs, paidAs, cancelledAs, byReasons, deedOf}

@@ -1,7 +1,7 @@
 -- Demand 1 from any state: the reply is by the table, or the state is one that no history of fresh ends comes to, and then `Beyond` says it.
 use mathlib.Core.Path.{_≡_, refl, sym, ap, subst}
 use mathlib.Core.Bool.{Bool, true, false, cond}
-use mathlib.Core.List.{List, [], _∷_}
+use mathlib.Core.List.{List}
 use mathlib.Core.Logic.{_⊎_, inl, inr}
 use Prim.Native.Nat.{ℕ, _≤_, _<_}
 use native.Mathlib.Omega.{arith}
@@ -28,7 +28,7 @@ use Rattle.promises.specs.AtTill as at-till-end
 use Rattle.promises.specs.Demand1.{Bench, Comes, atDevice, atTill, fromDevice, fromTill, Outcome, ByTheTable, at-device, at-till}
 use Rattle.promises.specs.Ends.{ofDevice, ofTill, outcomeOf, Beyond, unsound-books, more-tries}
 use Rattle.promises.proofs.DeviceRows.{short7, again, order, ordered}
-use Rattle.promises.proofs.TillRows.{triesOf, taking}
+use Rattle.promises.proofs.TillRows.{taking}
 use Rattle.promises.proofs.Demand1.{by-the-device}
 
 abbrev Says : Bench → Comes → Outcome → Type 0

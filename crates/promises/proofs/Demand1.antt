@@ -2,12 +2,12 @@
 use mathlib.Core.Path.{_≡_, refl, sym, ap, _∙_, subst}
 use mathlib.Core.Bool.{Bool, true, false, cond}
 use mathlib.Core.List.{List, [], _∷_}
-use Prim.Native.Nat.{ℕ, _+_, _≤_, _<_}
+use Prim.Native.Nat.{ℕ, _≤_, _<_}
 use native.Mathlib.Omega.{arith}
 use lib.Dec.{ltb}
 use lib.ListN.{length}
 use borrow.Author.Tests.{ltb-true}
-use Rattle.wire.specs.Frame.{Message, commandOf, sendable}
+use Rattle.wire.specs.Frame.{commandOf, sendable}
 use Rattle.wire.specs.declared.Kind.the-variants.{Command}
 use Rattle.reader.specs.Reading.{Place, Event, nothing, brokenFrame, heard, read}
 use Rattle.books.specs.Sound.{sound}
@@ -23,7 +23,7 @@ use Rattle.device.specs.Device.{lentTurn}
 use Rattle.till.specs.Turns as till
 use Rattle.till.specs.declared.Word.the-variants.{Unfinished, TooShort, NotSent}
 use Rattle.till.proofs.Seeing.{failsBy}
-use Rattle.promises.specs.AtDevice.{FromDevice, ByDevice}
+use Rattle.promises.specs.AtDevice.{ByDevice}
 use Rattle.promises.specs.AtTill.{replies, fails, atRest, row-9}
 use Rattle.promises.specs.Demand1.{Bench, freshBench, Comes, atDevice, atTill, Outcome, fromDevice, fromTill, benchAfter, ByTheTable, at-device, at-till, AllByTheTable, no-more, then}
 use Rattle.promises.specs.Ends.{ofDevice, ofTill, outcomeOf, outcomesOf}

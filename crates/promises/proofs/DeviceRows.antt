@@ -1,9 +1,8 @@
 -- Demand 1 at the device: a row of the table for every byte, and no other reply by the table. `tableTurn` is what the rows say, as a function; the device's own
 -- turn is the same where its books are sound.
-use mathlib.Core.Path.{_≡_, refl, sym, ap, _∙_, subst}
+use mathlib.Core.Path.{_≡_, refl, sym, ap, _∙_}
 use mathlib.Core.Bool.{Bool, true, false, cond}
 use mathlib.Core.List.{List, [], _∷_}
-use mathlib.Core.Logic.{_⊎_, inl, inr}
 use Prim.Native.Nat.{ℕ, _≤_}
 use lib.Dec.{ltb}
 use lib.ListN.{length}
@@ -19,13 +18,13 @@ use Rattle.kinds.specs.declared.Parsed.the-variants.{Read, Syntax, Unknown}
 use Rattle.command.specs.Commands.{parsedOf}
 use Rattle.deeds.specs.Reasons.{three, four}
 use Rattle.deeds.specs.Effects.{effect, shows}
-use Rattle.deeds.specs.Deeds.{refusedWith, done, judged, byReasons, deedOf, carriedOut}
+use Rattle.deeds.specs.Deeds.{refusedWith, done, judged, byReasons, deedOf}
 use Rattle.deeds.specs.declared.Deed.{Deed}
 use Rattle.deeds.proofs.Reasons.{judged-by-its-reasons}
 use Rattle.line.specs.Turns.{was, State, Carried, Turn, repeats, lastAnswer, onEvent, turn}
 use Rattle.device.specs.Carrying.{deedFor, carriedAs, carry}
 use Rattle.device.specs.Device.{lentTurn}
-use Rattle.promises.specs.AtDevice.{FromDevice, tells, reads, moved, remembers, NewFrame, NewCommand, answerWith, ByDevice, row-0-taken, row-0-done, row-1, row-2, row-3, row-4, row-5, row-6, row-7}
+use Rattle.promises.specs.AtDevice.{FromDevice, reads, NewFrame, NewCommand, ByDevice, row-0-taken, row-0-done, row-1, row-2, row-3, row-4, row-5, row-6, row-7}
 use Rattle.promises.specs.Ends.{ofDevice}
 use Rattle.promises.proofs.Verdicts.{Right, syntax, no-kind, is-read, parsed-right, right-fitting}
 

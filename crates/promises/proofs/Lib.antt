@@ -6,6 +6,8 @@ pub mod AnyState
 pub mod Rows
 pub mod Sizes
 pub mod Parts
+pub mod CodedDevice
+pub mod CodedTill
 pub mod Coded
 pub mod Joining
 pub mod Demand2

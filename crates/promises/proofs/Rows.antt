@@ -11,7 +11,7 @@ use Rattle.wire.specs.declared.Kind.the-variants.{Command}
 use Rattle.till.specs.Turns.{Happening, command, byte, timeout}
 use Rattle.till.specs.declared.Word.{Word}
 use Rattle.till.specs.declared.Word.the-variants.{Idle, Waiting, SendAgain, Answered, Unfinished, TooShort, NotSent}
-use Rattle.promises.specs.Demand1.{Bench, freshBench, Comes, atDevice, atTill, Outcome, fromDevice, fromTill}
+use Rattle.promises.specs.Demand1.{freshBench, Comes, atDevice, atTill, Outcome, fromDevice, fromTill}
 use Rattle.promises.specs.Ends.{outcomesOf}
 
 -- bytes to the device, with 217 lent; a command to it; bytes of an answer to the till end, with 210 lent

@@ -8,7 +8,7 @@ use native.Mathlib.Omega.{arith}
 use lib.Dec.{eqb, leb, ltb}
 use lib.ListN.{length, getD, take, drop, length-append, length-take}
 use borrow.Author.Tests.{leb-true, eqb-false, ltb-false}
-use Rattle.wire.specs.Frame.{Message, commandOf, answerOf, frame, counted, bcc, total, inner, sendable}
+use Rattle.wire.specs.Frame.{commandOf, answerOf, frame, counted, bcc, total, inner, sendable}
 use Rattle.wire.specs.Places.{front, behindData, dataCount, shortest, longest}
 use Rattle.wire.specs.declared.Kind.{Kind}
 use Rattle.wire.specs.declared.Kind.the-variants.{Command, Answer}

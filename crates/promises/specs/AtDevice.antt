@@ -7,7 +7,7 @@ use lib.ListN.{length}
 use lib.Seq.{sets}
 use Rattle.wire.specs.Frame.{Message, answerOf, frame}
 use Rattle.wire.specs.declared.Kind.the-variants.{Command, Answer}
-use Rattle.reader.specs.Reading.{Event, nothing, brokenFrame, heard, Read, read}
+use Rattle.reader.specs.Reading.{nothing, brokenFrame, heard, Read, read}
 use Rattle.books.specs.declared.Books.{Books}
 use Rattle.answers.specs.Contents.{contentOf}
 use Rattle.answers.specs.Status.{receipts, memories}

@@ -59,20 +59,30 @@ partAfter f buffer bytes = afterPart (f .line) (f .books) (f .frame) (f .last) b
 abbrev pub turnAfter : Handed → List ℕ → till.Happening → till.Turn
 turnAfter f buffer h = fields.turnOf (f .till) (f .sent) (f .answer) buffer h
 
+-- the till end's arrays: `command` is lent the one for the frame to write, `byte` the one for the answer; no other call writes in them
+abbrev pub sentAfter : Handed → List ℕ → till.Happening → List ℕ
+sentAfter f buffer (till.command code content) = fields.framed (f .sent) (turnAfter f buffer (till.command code content) .state .pending)
+sentAfter f buffer (till.byte b) = f .sent
+sentAfter f buffer till.timeout = f .sent
+
+abbrev pub answerAfter : Handed → List ℕ → till.Happening → List ℕ
+answerAfter f buffer (till.command code content) = f .answer
+answerAfter f buffer (till.byte b) = fields.readIn (f .answer) (turnAfter f buffer (till.byte b) .state .pending)
+answerAfter f buffer till.timeout = f .answer
+
 abbrev pub handedOn : Handed → CodeCall → Handed
 handedOn f (hear buffer bytes) =
     let p = partAfter f buffer bytes in
     record { line = p .hearing .given .line; books = p .hearing .given .books; frame = p .frame; last = p .last; till = f .till; sent = f .sent; answer = f .answer }
 handedOn f (happens buffer h) =
-    let t = turnAfter f buffer h in
     record {
       line = f .line;
       books = f .books;
       frame = f .frame;
       last = f .last;
-      till = fields.saidOf (f .till) t .till;
-      sent = fields.framed (f .sent) (t .state .pending);
-      answer = fields.readIn (f .answer) (t .state .pending);
+      till = fields.saidOf (f .till) (turnAfter f buffer h) .till;
+      sent = sentAfter f buffer h;
+      answer = answerAfter f buffer h;
     }
 
 -- the result of a device's call is a reply: number, count, the bytes given back, every byte of the buffer, and the state that its fields and arrays say
