@@ -1,8 +1,6 @@
 -- What a call on the line makes of the device: the second half of a byte, which alone moves the books.
 use Prim.Native.Nat.{ℕ}
-use mathlib.Core.Bool.{cond}
 use mathlib.Core.List.{List, [], _∷_}
-use lib.Dec.{ltb}
 use lib.ListN.{length, take, drop}
 use lib.Seq.{sets}
 use Rattle.wire.specs.Frame.{commandOf}
@@ -14,7 +12,7 @@ use Rattle.line.specs.declared.Call.the-variants.{Quiet, Nak, Again, Order}
 use Rattle.line.specs.declared.Line.{Line}
 use Rattle.line.specs.declared.Previous.the-variants.{Frame}
 use Rattle.device.specs.Carrying.{carry}
-use Rattle.device.specs.Device.{After, notTaken}
+use Rattle.device.specs.Device.{After}
 use Rattle.device.specs.declared.Given.{Given}
 
 -- bytes given back, and nothing else changed
@@ -38,7 +36,3 @@ answering l b Quiet frame last buffer = gives 0 l b [] frame last buffer
 answering l b Nak frame last buffer = gives 5 l b (0x15 ∷ []) frame last buffer
 answering l b Again frame last buffer = gives 6 l b (lastAnswer (beforeOf (l .previous) last)) frame last buffer
 answering l b (Order seq code n) frame last buffer = orders l seq code (carry b (commandOf seq code (take n (drop 3 frame)))) frame last buffer
-
--- with 7 before all else
-abbrev pub responding : Line → Books → Call → List ℕ → List ℕ → List ℕ → After
-responding l b call frame last buffer = cond (ltb (length buffer) 217) (notTaken l b frame last buffer) (answering l b call frame last buffer)

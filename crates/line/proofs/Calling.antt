@@ -142,8 +142,20 @@ module _ (l : Line) (frame₀ bytes frame : List ℕ) (reader : Reader) (i : ℕ
   -- the end of the part
   pub head-done : length bytes ≤ i → (r : Listened) → r ≡ record { line = here; call = Quiet; taken = i } → (r ≡ listenedTo l frame₀ bytes) × (frame ≡ frameBehind l frame₀ bytes)
   head-done done r er =
-      let n : i + 0 ≡ i = omega arith in
-      (
+      let n : i + 0 ≡ i = omega arith in (
         er ∙ sym (h .listens ∙ ap (λ z. further i (listenedTo here frame z)) (drop-of-length-le bytes done) ∙ ap (λ k. record { line = here; call = Quiet; taken = k }) n),
         sym (h .frames ∙ ap (λ z. frameBehind here frame z) (drop-of-length-le bytes done)),
       )
+
+-- no more bytes are taken than there are
+pub listened-within : (bytes : List ℕ) (l : Line) (frame : List ℕ) → listenedTo l frame bytes .taken ≤ length bytes
+listened-within [] l frame = omega arith
+listened-within (b ∷ bs) l frame = go (isQuiet (calledOf l frame b .call)) (listened-within bs (calledOf l frame b .line) (frameAfter l frame b))
+  where
+    later : Listened
+    later = listenedTo (calledOf l frame b .line) (frameAfter l frame b) bs
+
+    go : (q : Bool) → later .taken ≤ length bs
+        → cond {A = Listened} q (record { line = later .line; call = later .call; taken = later .taken + 1 }) (record { line = calledOf l frame b .line; call = calledOf l frame b .call; taken = 1 }) .taken ≤ length (b ∷ bs)
+    go true h = omega (arith, h)
+    go false h = omega arith

@@ -4,7 +4,6 @@ use books::Books;
 use device::Given;
 use libc::STDIN_FILENO;
 use libc::STDOUT_FILENO;
-use line::Call;
 use line::Line;
 
 fn main() {
@@ -19,11 +18,11 @@ fn main() {
         if n == 0 {
             return;
         }
-        let given = hear(line, books, &mut frame, &mut last, &chunk, n);
-        let l = given.line;
-        let b = given.books;
-        line = l;
-        books = b;
+        let given = answer(line, books, &mut frame, &mut last, &chunk, n);
+        let next = given.line;
+        let after = given.books;
+        line = next;
+        books = after;
         turns -= 1;
     }
 }
@@ -34,8 +33,8 @@ fn some(chunk: &mut [u8]) -> usize {
     io::count(got, &*chunk)
 }
 
-// The first n bytes of a chunk. The books move only where a byte asks for something.
-fn hear(
+// The first n bytes of a chunk, call by call: each call ends with what is to be written out.
+fn answer(
     line: Line,
     books: Books,
     frame: &mut [u8; 256],
@@ -43,26 +42,23 @@ fn hear(
     chunk: &[u8],
     n: usize,
 ) -> Given {
+    let mut buf = [0u8; 217];
     let mut at = line;
     let mut kept = books;
     let mut i = 0;
     while i < n {
-        if chunk.len() <= i {
+        if chunk.len() < n {
             return so_far(at, kept);
         }
-        let called = line::hear(at, frame, chunk[i]);
-        let next = called.line;
-        let call = called.call;
+        let heard = device::hear(at, kept, frame, last, &mut buf, &chunk[i..n]);
+        let given = heard.given;
+        let next = given.line;
+        let after = given.books;
+        let count = given.count;
+        io::write_all(STDOUT_FILENO, &buf[0..count]);
         at = next;
-        i += 1;
-        if line::is_quiet(call) {
-            continue;
-        }
-        let answered = answer(next, kept, call, &*frame, last);
-        let l = answered.line;
-        let b = answered.books;
-        at = l;
-        kept = b;
+        kept = after;
+        i += heard.taken;
     }
     so_far(at, kept)
 }
@@ -74,15 +70,4 @@ fn so_far(line: Line, books: Books) -> Given {
         number: 0,
         count: 0,
     }
-}
-
-// What a byte asks for, written out at once.
-fn answer(line: Line, books: Books, call: Call, frame: &[u8; 256], last: &mut [u8; 217]) -> Given {
-    let mut buf = [0u8; 217];
-    let given = device::respond(line, books, call, frame, last, &mut buf);
-    let count = given.count;
-    if count <= 217 {
-        io::write_all(STDOUT_FILENO, &buf[0..count]);
-    }
-    given
 }
