@@ -1,6 +1,5 @@
 -- Laws of a whole recording: bytes appended as far as there is room, and a turn of the loop.
 use mathlib.Core.Path.{_≡_, refl, sym, ap, _∙_, subst}
-use mathlib.Core.Bool.{Bool, true, false, cond}
 use mathlib.Core.List.{List, [], _∷_, _++_, append-assoc}
 use Prim.Native.Nat.{ℕ, _+_, _-_, _%_, _≤_, _<_, min}
 use native.Mathlib.Decide.{decLt}
@@ -17,15 +16,14 @@ use Rattle.reader.proofs.Running.{bytesOf}
 use Rattle.reader.proofs.Holding.{Held}
 use Rattle.books.specs.Books.{freshBooks}
 use Rattle.books.specs.declared.Books.{Books}
-use Rattle.line.specs.Turns.{turn, Session, session}
-use Rattle.line.specs.Calls.{isQuiet, calledOf}
+use Rattle.line.specs.Turns.{Session, session}
 use Rattle.line.specs.declared.Call.{Call}
 use Rattle.line.specs.declared.Call.the-variants.{Quiet, Nak, Again, Order}
 use Rattle.line.specs.declared.Line.{Line}
 use Rattle.line.specs.declared.Previous.the-variants.{Nothing}
 use Rattle.device.specs.Carrying.{carry}
-use Rattle.device.specs.Device.{After, stateOf, taken}
-use Rattle.device.specs.Hearing.{PartHeard, partOf, oneMore, hearing, afterPart}
+use Rattle.device.specs.Device.{stateOf}
+use Rattle.device.specs.Hearing.{PartHeard, hearing, afterPart}
 use Rattle.device.specs.Recording.{recording, listed, listing, Told, toldIn}
 use Rattle.device.specs.Private.{listedCall}
 use Rattle.device.proofs.Working.{take-min, take-all}
@@ -125,21 +123,6 @@ onto-behind out orders given listed gives carried r =
       orders = z;
     }) (sym (joined orders ms ns listed))
 
--- a call on some bytes takes one at least
-some-taken : (l : Line) (b : Books) (frame last buf : List ℕ) (bytes : List ℕ) → 0 < length bytes → 0 < hearing l b frame last buf bytes .hearing .taken
-some-taken l b frame last buf [] h = absurd (omega arith)
-some-taken l b frame last buf (x ∷ xs) h = go (isQuiet (calledOf l frame x .call))
-  where
-    a : After
-    a = taken l frame last buf (turn carry (stateOf l b frame last) x)
-
-    rest : PartHeard
-    rest = hearing (a .given .line) (a .given .books) (a .frame) (a .last) (a .buffer) xs
-
-    go : (q : Bool) → 0 < cond q (oneMore rest) (partOf a (calledOf l frame x .call) 1) .hearing .taken
-    go true = omega arith
-    go false = omega arith
-
 -- what is known at the loop's head
 pub record Head (bytes out0 orders0 out orders frame last buf : List ℕ) (l : Line) (b : Books) (written listed i : ℕ) : Type 0 where
   pub within : i ≤ length bytes
@@ -179,9 +162,8 @@ module _ (bytes out0 orders0 out orders frame last buf : List ℕ) (l : Line) (b
   is-heard : p ≡ hearing l b frame last buf (drop i bytes)
   is-heard = ep ∙ ap (afterPart l b frame last buf) all-left ∙ sym (part-long l b frame last buf (drop i bytes) (omega (arith, h .room)))
 
-  pub some-heard : 0 < p .hearing .taken
-  some-heard =
-      subst (λ (z : PartHeard). 0 < z .hearing .taken) (sym is-heard) (some-taken l b frame last buf (drop i bytes) (omega (arith, length-drop i bytes, more)))
+  pub some-left : 0 < length (take (length bytes - i) (drop i bytes))
+  some-left = omega (arith, ap length all-left, length-drop i bytes, more)
 
   pub heard-within : p .hearing .taken ≤ length (take (length bytes - i) (drop i bytes)) → i + p .hearing .taken ≤ length bytes
   heard-within fits = omega (arith, fits, ap length all-left, length-drop i bytes, more)

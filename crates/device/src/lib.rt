@@ -8,7 +8,7 @@ use line::Previous;
 use wire::Built;
 use wire::build;
 ghost use mathlib.Core.Path.{_≡_};
-ghost use Prim.Native.Nat.{_+_, _≤_, min};
+ghost use Prim.Native.Nat.{_+_, _≤_, _<_, min};
 ghost use lib.ListN.{length, take, drop};
 ghost use lib.Seq.{sets};
 ghost use Rattle.wire.specs.Frame.{commandOf};
@@ -62,6 +62,7 @@ pub fn hear(
     ensures { λ r. ⌜ record { hearing = r; frame = now (frame .exit); last = now (last .exit); buffer = now (buf .exit) } ≡ afterPart line books (now (frame .entry)) (now (last .entry)) (now (buf .entry)) (now (bytes .entry)) ⌝ }
     ensures { λ r. ⌜ r .given .count ≤ 217 ⌝ }
     ensures { λ r. ⌜ r .taken ≤ length (now (bytes .entry)) ⌝ }
+    ensures { λ r. ⌜ (217 ≤ length (now (buf .entry)) → 0 < length (now (bytes .entry)) → 0 < r .taken) ⌝ }
 {
     if buf.len() < 217 {
         return Hearing {

@@ -159,3 +159,16 @@ listened-within (b ∷ bs) l frame = go (isQuiet (calledOf l frame b .call)) (li
         → cond {A = Listened} q (record { line = later .line; call = later .call; taken = later .taken + 1 }) (record { line = calledOf l frame b .line; call = calledOf l frame b .call; taken = 1 }) .taken ≤ length (b ∷ bs)
     go true h = omega (arith, h)
     go false h = omega arith
+
+-- and of some bytes at least one
+pub listened-some : (bytes : List ℕ) (l : Line) (frame : List ℕ) → 0 < length bytes → 0 < listenedTo l frame bytes .taken
+listened-some [] l frame h = absurd (omega arith)
+listened-some (b ∷ bs) l frame h = go (isQuiet (calledOf l frame b .call))
+  where
+    later : Listened
+    later = listenedTo (calledOf l frame b .line) (frameAfter l frame b) bs
+
+    go : (q : Bool)
+        → 0 < cond {A = Listened} q (record { line = later .line; call = later .call; taken = later .taken + 1 }) (record { line = calledOf l frame b .line; call = calledOf l frame b .call; taken = 1 }) .taken
+    go true = omega arith
+    go false = omega arith

@@ -2,9 +2,12 @@
 // is there.
 use books::Books;
 use device::Given;
+use device::Hearing;
 use libc::STDIN_FILENO;
 use libc::STDOUT_FILENO;
 use line::Line;
+ghost use Prim.Native.Nat.{_≤_, _<_};
+ghost use lib.ListN.{length};
 
 fn main() {
     let mut frame = [0u8; 256];
@@ -33,7 +36,7 @@ fn some(chunk: &mut [u8]) -> usize {
     io::count(got, &*chunk)
 }
 
-// The first n bytes of a chunk, call by call: each call ends with what is to be written out.
+// The first n bytes of a chunk, call by call.
 fn answer(
     line: Line,
     books: Books,
@@ -42,7 +45,6 @@ fn answer(
     chunk: &[u8],
     n: usize,
 ) -> Given {
-    let mut buf = [0u8; 217];
     let mut at = line;
     let mut kept = books;
     let mut i = 0;
@@ -50,17 +52,34 @@ fn answer(
         if chunk.len() < n {
             return so_far(at, kept);
         }
-        let heard = device::hear(at, kept, frame, last, &mut buf, &chunk[i..n]);
+        let heard = call(at, kept, frame, last, &chunk[i..n]);
         let given = heard.given;
         let next = given.line;
         let after = given.books;
-        let count = given.count;
-        io::write_all(STDOUT_FILENO, &buf[0..count]);
         at = next;
         kept = after;
         i += heard.taken;
     }
     so_far(at, kept)
+}
+
+// One call, and what it gives back written out at once.
+fn call(
+    line: Line,
+    books: Books,
+    frame: &mut [u8; 256],
+    last: &mut [u8; 217],
+    bytes: &[u8],
+) -> Hearing
+    ensures { λ r. ⌜ r .taken ≤ length (now (bytes .entry)) ⌝ }
+    ensures { λ r. ⌜ (0 < length (now (bytes .entry)) → 0 < r .taken) ⌝ }
+{
+    let mut buf = [0u8; 217];
+    let heard = device::hear(line, books, frame, last, &mut buf, bytes);
+    let given = heard.given;
+    let count = given.count;
+    io::write_all(STDOUT_FILENO, &buf[0..count]);
+    heard
 }
 
 fn so_far(line: Line, books: Books) -> Given {

@@ -1,9 +1,9 @@
 use mathlib.Core.Path.{ap, subst, sym}
-use Prim.Native.Nat.{_≤_}
+use Prim.Native.Nat.{_≤_, _<_}
 use native.Mathlib.Omega.{arith}
 use lib.ListN.{length}
 use denote.Ref.{now}
-use Rattle.line.proofs.Calling.{listened-within}
+use Rattle.line.proofs.Calling.{listened-within, listened-some}
 use Rattle.line.specs.declared.Listened.{Listened}
 use Rattle.device.proofs.Parts.{part-short, part-heard}
 use borrow.Author.Needs.{needs}
@@ -23,7 +23,7 @@ gave-requires c κs = search needs
 returns : tie.Need-returns
 returns c =
     let a = c .before .before .before .before .args in
-    (part-short (a .line) (a .books) (now (a .frame)) (now (a .last)) (now (a .buf)) (now (a .bytes)) (c .gave .result) (c .gave .ensures) (c .before .if1 .taken), (omega (arith, ap (λ z. z .count) (c .gave .ensures)), omega arith))
+    (part-short (a .line) (a .books) (now (a .frame)) (now (a .last)) (now (a .buf)) (now (a .bytes)) (c .gave .result) (c .gave .ensures) (c .before .if1 .taken), (omega (arith, ap (λ z. z .count) (c .gave .ensures)), (omega arith, λ long some. absurd (omega (arith, long, c .before .if1 .taken)))))
 
 -- src/lib.rt:73:9
 listen-requires : tie.Need-listen-requires
@@ -45,7 +45,13 @@ returns-2 c =
     let told = c .before .before .answer-call in (
       part-heard (a .line) (a .books) (now (a .frame)) (now (a .last)) (now (a .buf)) (now (a .bytes)) (heard .result) _ _ (heard .ensures .0) (heard .ensures .1) (told .ensures .0)
           (c .before .before .before .before .before .before .before .before .before .before .if1 .left),
-      (told .ensures .1, subst (λ (z : Listened). z .taken ≤ length (now (a .bytes))) (sym (heard .ensures .0)) (listened-within (now (a .bytes)) (a .line) (now (a .frame)))),
+      (
+        told .ensures .1,
+        (
+          subst (λ (z : Listened). z .taken ≤ length (now (a .bytes))) (sym (heard .ensures .0)) (listened-within (now (a .bytes)) (a .line) (now (a .frame))),
+          λ long some. subst (λ (z : Listened). 0 < z .taken) (sym (heard .ensures .0)) (listened-some (now (a .bytes)) (a .line) (now (a .frame)) some),
+        ),
+      ),
     )
 
 pub hear-spec : {M : Type 1} → statement M

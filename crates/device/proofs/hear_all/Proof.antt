@@ -1,5 +1,5 @@
 use lib.ListN.{length}
-use Rattle.device.proofs.Listening.{Head, head-start, part-here, heard-within, some-heard, head-heard, head-done}
+use Rattle.device.proofs.Listening.{Head, head-start, part-here, heard-within, some-left, head-heard, head-done}
 use mathlib.Core.Path.{sym, _∙_}
 use Prim.Native.Nat.{_-_}
 use native.Mathlib.Omega.{arith}
@@ -98,7 +98,7 @@ add-i c =
     let a = c .before .before .before .before .before .before .before .before .before .before .before .before .before .before .before .before .before .before .before .before .before .before .before .before .before .before .before .before .args in
     let at = c .before .before .before .before .before .before .before .before .before .before .before .before .before .before .before .before .before .before .before .before .before .before .loop in
     let heard = c .before .before .before .before .before .before .before .before .before .before .before .before .before .before .before .before .hear in
-    let within = heard-within (now (a .bytes)) (now (a .out)) (now (a .orders)) (at .out) (at .orders) (at .frame) (at .last) (at .buf) (at .line) (at .books) (at .written) (at .listed) (at .i) (at .inv) (c .before .before .before .before .before .before .before .before .before .before .before .before .before .before .before .before .before .before .before .before .before .loop-test .taken) _ (heard .ensures .0) (heard .ensures .1 .1) in
+    let within = heard-within (now (a .bytes)) (now (a .out)) (now (a .orders)) (at .out) (at .orders) (at .frame) (at .last) (at .buf) (at .line) (at .books) (at .written) (at .listed) (at .i) (at .inv) (c .before .before .before .before .before .before .before .before .before .before .before .before .before .before .before .before .before .before .before .before .before .loop-test .taken) _ (heard .ensures .0) (heard .ensures .1 .1 .0) in
     omega (arith, within, c .before .before .before .before .before .before .before .before .before .before .before .before .before .before .before .before .before .before .before .before .before .before .before .before .before .before .before .before .good .0 .0)
 
 -- src/lib.rt:241:5
@@ -107,7 +107,8 @@ loop-less c =
     let a = c .before .before .before .before .before .before .before .before .before .before .before .before .before .before .before .before .before .before .before .before .before .before .before .before .before .before .before .before .args in
     let at = c .before .before .before .before .before .before .before .before .before .before .before .before .before .before .before .before .before .before .before .before .before .before .loop in
     let heard = c .before .before .before .before .before .before .before .before .before .before .before .before .before .before .before .before .hear in
-    omega (arith, some-heard (now (a .bytes)) (now (a .out)) (now (a .orders)) (at .out) (at .orders) (at .frame) (at .last) (at .buf) (at .line) (at .books) (at .written) (at .listed) (at .i) (at .inv) (c .before .before .before .before .before .before .before .before .before .before .before .before .before .before .before .before .before .before .before .before .before .loop-test .taken) _ (heard .ensures .0), c .before .before .before .before .before .before .before .before .before .before .before .before .before .before .before .before .before .before .before .before .before .loop-test .taken)
+    let some = heard .ensures .1 .1 .1 (omega (arith, at .inv .room)) (some-left (now (a .bytes)) (now (a .out)) (now (a .orders)) (at .out) (at .orders) (at .frame) (at .last) (at .buf) (at .line) (at .books) (at .written) (at .listed) (at .i) (at .inv) (c .before .before .before .before .before .before .before .before .before .before .before .before .before .before .before .before .before .before .before .before .before .loop-test .taken) _ (heard .ensures .0)) in
+    omega (arith, some, c .before .before .before .before .before .before .before .before .before .before .before .before .before .before .before .before .before .before .before .before .before .loop-test .taken)
 
 -- src/lib.rt:241:5
 loop-again : tie.Need-loop-again Inv-loop μ-loop
@@ -115,7 +116,7 @@ loop-again c =
     let a = c .before .before .before .before .before .before .before .before .before .before .before .before .before .before .before .before .before .before .before .before .before .before .before .before .before .before .before .before .args in
     let at = c .before .before .before .before .before .before .before .before .before .before .before .before .before .before .before .before .before .before .before .before .before .before .loop in
     let heard = c .before .before .before .before .before .before .before .before .before .before .before .before .before .before .before .before .hear in
-    head-heard (now (a .bytes)) (now (a .out)) (now (a .orders)) (at .out) (at .orders) (at .frame) (at .last) (at .buf) (at .line) (at .books) (at .written) (at .listed) (at .i) (at .inv) (c .before .before .before .before .before .before .before .before .before .before .before .before .before .before .before .before .before .before .before .before .before .loop-test .taken) _ (heard .ensures .0) (heard .ensures .1 .0) (heard .ensures .1 .1) _ _ _ _ (c .before .before .before .append .ensures .1) (c .before .before .before .append .ensures .0) (c .before .before .before .before .before .before .before .before .before .list-call .ensures .1) (c .before .before .before .before .before .before .before .before .before .list-call .ensures .0)
+    head-heard (now (a .bytes)) (now (a .out)) (now (a .orders)) (at .out) (at .orders) (at .frame) (at .last) (at .buf) (at .line) (at .books) (at .written) (at .listed) (at .i) (at .inv) (c .before .before .before .before .before .before .before .before .before .before .before .before .before .before .before .before .before .before .before .before .before .loop-test .taken) _ (heard .ensures .0) (heard .ensures .1 .0) (heard .ensures .1 .1 .0) _ _ _ _ (c .before .before .before .append .ensures .1) (c .before .before .before .append .ensures .0) (c .before .before .before .before .before .before .before .before .before .list-call .ensures .1) (c .before .before .before .before .before .before .before .before .before .list-call .ensures .0)
 
 -- src/lib.rt:230:1
 same-length : tie.Need-same-length Inv-loop μ-loop
