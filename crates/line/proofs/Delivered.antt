@@ -13,7 +13,7 @@ use Rattle.wire.proofs.Suits.{both}
 use Rattle.reader.specs.Reading.{Event, nothing, brokenFrame, heard, run}
 use Rattle.line.specs.Turns.{Before, none, was, State, Carried, Turn, Session, switchedOn, repeats, lastAnswer, session}
 use Rattle.tries.specs.Tries.{Arrival, whole, replaced, cut, mayArrive, arriving, Begun, clear, begun, leaves, startBrings, lostStartBrings, damageBrings, brings}
-use Rattle.line.specs.Delivery.{isWhole, Sent, all, any, tried, differ, differsFrom, delivery, commands, triesArriving, allArriving, triesLeave, given, heardIn, carriedIn, carryAll, TriesBring, AllBring}
+use Rattle.line.specs.Delivery.{isWhole, Sent, all, any, tried, differ, differsFrom, delivery, commands, triesArriving, allArriving, triesLeave, givenBack, heardIn, carriedIn, carryAll, TriesBring, AllBring}
 use Rattle.tries.specs.TryRead.{news, standsAt, Fits}
 use Rattle.tries.proofs.Trying.{try-read}
 use Rattle.line.proofs.Sessions.{device, Reaction, endingAt, behind, session-append, session-news, frame-again, frame-new, reacts}
@@ -74,7 +74,7 @@ module _ {B : Type 0} (carry : B → Message → Carried B) where
     -- what such events bring
     abbrev Told : Bool → List Event → Reaction B
     Told done es = record {
-      gives = given m (lastAnswer first) answer es;
+      gives = givenBack m (lastAnswer first) answer es;
       carried = carriedIn m done (heardIn m es);
       before = beforeAt (done || heardIn m es);
       books = booksAt (done || heardIn m es);
@@ -83,7 +83,7 @@ module _ {B : Type 0} (carry : B → Message → Carried B) where
     -- with one frame more in front, of another command or of this one
     abbrev ToldWith : (another done : Bool) → List Event → Reaction B
     ToldWith another done es = record {
-      gives = cond another (lastAnswer first) answer ++ given m (lastAnswer first) answer es;
+      gives = cond another (lastAnswer first) answer ++ givenBack m (lastAnswer first) answer es;
       carried = carriedIn m done (not another || heardIn m es);
       before = beforeAt (done || (not another || heardIn m es));
       books = booksAt (done || (not another || heardIn m es));
@@ -300,7 +300,7 @@ module _ {B : Type 0} (carry : B → Message → Carried B) where
   brings-for-each-try cs e books = delivered cs e books .bring
 
 -- a device that does nothing but hear
-abbrev idle : Unit {0} → Message → Carried (Unit {0})
+abbrev pub idle : Unit {0} → Message → Carried (Unit {0})
 idle books m = record { number = 0; books = tt; answer = [] }
 
 -- "So two different lists never arrive as the same bytes."

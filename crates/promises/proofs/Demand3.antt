@@ -18,7 +18,7 @@ use Rattle.books.specs.Books.{freshBooks}
 use Rattle.books.specs.declared.Books.{Books}
 use Rattle.line.specs.Turns.{Before, switchedOn, session}
 use Rattle.tries.specs.Tries.{cut, Begun, clear, begun, brings}
-use Rattle.line.specs.Delivery.{Sent, delivery, commands, allArriving, given, carryAll, AllBring, EndedByTheNext}
+use Rattle.line.specs.Delivery.{Sent, delivery, commands, allArriving, givenBack, carryAll, AllBring, EndedByTheNext}
 use Rattle.line.proofs.Delivered.{carries-out-that-very-list, brings-for-each-try, same-bytes-same-list}
 use Rattle.line.proofs.Ended.{ended-by-the-next}
 use Rattle.device.specs.Carrying.{carry}
@@ -42,12 +42,12 @@ each-try-brings books cs e = brings-for-each-try carry cs e books
 
 -- so a cut try is answered with nothing or with one NAK
 pub a-cut-try-is-answered : (m : Message) (b : Begun) (last answer : List ℕ) (count : ℕ)
-    → (given m last answer (brings Command b m (cut count)) ≡ []) ⊎ (given m last answer (brings Command b m (cut count)) ≡ 0x15 ∷ [])
+    → (givenBack m last answer (brings Command b m (cut count)) ≡ []) ⊎ (givenBack m last answer (brings Command b m (cut count)) ≡ 0x15 ∷ [])
 a-cut-try-is-answered m b last answer zero = inl refl
 a-cut-try-is-answered m clear last answer (suc count) = inl refl
 a-cut-try-is-answered m (begun n came) last answer (suc count) = go (ltb 1 came)
   where
-    go : (t : Bool) → (given m last answer (cond t (brokenFrame ∷ []) []) ≡ []) ⊎ (given m last answer (cond t (brokenFrame ∷ []) []) ≡ 0x15 ∷ [])
+    go : (t : Bool) → (givenBack m last answer (cond t (brokenFrame ∷ []) []) ≡ []) ⊎ (givenBack m last answer (cond t (brokenFrame ∷ []) []) ≡ 0x15 ∷ [])
     go true = inr refl
     go false = inl refl
 

@@ -2,7 +2,7 @@
 use mathlib.Core.Path.{_≡_, refl}
 use mathlib.Core.List.{List, [], _∷_}
 use Rattle.till.specs.Turns.{freshState, seqAfter, command, byte, timeout}
-use Rattle.till.specs.History.{Lent, history, words, given, line, seqOf}
+use Rattle.till.specs.History.{Lent, history, words, putsOf, heardBytes, seqOf}
 use Rattle.till.specs.declared.Word.the-variants.{Idle, Waiting, SendAgain, Answered, Unfinished, NotSent}
 use Prim.Native.Nat.{ℕ}
 
@@ -24,15 +24,15 @@ answer74 =
     ∷ 0x03 ∷ []
 
 -- the same frame five times, then Unfinished, and the answer that comes too late is heard by nobody
-gives-up : words (history freshState (status74 ∷ late ∷ nak ∷ late ∷ status74 ∷ nak ∷ late ∷ line (0x01 ∷ 0x31 ∷ [])))
+gives-up : words (history freshState (status74 ∷ late ∷ nak ∷ late ∷ status74 ∷ nak ∷ late ∷ heardBytes (0x01 ∷ 0x31 ∷ [])))
     ≡ Waiting 10 ∷ SendAgain 10 ∷ SendAgain 10 ∷ SendAgain 10 ∷ NotSent ∷ SendAgain 10 ∷ Unfinished 5 ∷ Idle ∷ Idle ∷ []
 gives-up = refl
 
-same-frame : given (history freshState (status74 ∷ late ∷ nak ∷ [])) ≡ frame74 ∷ frame74 ∷ frame74 ∷ []
+same-frame : putsOf (history freshState (status74 ∷ late ∷ nak ∷ [])) ≡ frame74 ∷ frame74 ∷ frame74 ∷ []
 same-frame = refl
 
 -- its whole answer, behind a NAK and with a stray byte before it
-answered : words (history freshState (status74 ∷ nak ∷ line (0x16 ∷ answer74)))
+answered : words (history freshState (status74 ∷ nak ∷ heardBytes (0x16 ∷ answer74)))
     ≡ Waiting 10 ∷ SendAgain 10 ∷ Waiting 0 ∷ Waiting 0 ∷ Waiting 0 ∷ Waiting 0 ∷ Waiting 0 ∷ Waiting 0 ∷ Waiting 0 ∷ Waiting 0 ∷ Waiting 0 ∷ Waiting 0 ∷ Waiting 0
     ∷ Waiting 0 ∷ Waiting 0 ∷ Waiting 0 ∷ Waiting 0 ∷ Waiting 0 ∷ Waiting 0 ∷ Waiting 0 ∷ Waiting 0 ∷ Waiting 0 ∷ Waiting 0 ∷ Waiting 0 ∷ Waiting 0 ∷ Answered 12 ∷ []
 answered = refl
