@@ -1,26 +1,26 @@
 -- At most once: what is carried out is what is heard, repeats left out, whatever arrives; and where no try lacks only its last byte, the commands of which a
 -- try arrived whole.
 use mathlib.Core.Path.{_≡_, refl, sym, ap, _∙_, subst}
-use mathlib.Core.Bool.{Bool, true, false, cond, not, _&&_, _||_, or-true, or-false, false≢true}
-use mathlib.Core.List.{List, [], _∷_, _++_, append-assoc, append-nil, map}
+use mathlib.Core.Bool.{Bool, true, false, cond, not, _&&_, false≢true}
+use mathlib.Core.List.{List, [], _∷_, _++_, append-assoc, append-nil}
 use Prim.Native.Nat.{ℕ, zero, suc, _+_}
 use native.Mathlib.Omega.{arith}
 use lib.Dec.{ltb, eqb}
 use lib.ListN.{length}
-use borrow.Author.Tests.{eq-eqb, eqb-true, ne-eqb, not-true}
+use borrow.Author.Tests.{eqb-true, ne-eqb, not-true}
 use Rattle.wire.specs.Frame.{Message, frame, sendable}
 use Rattle.wire.specs.declared.Kind.the-variants.{Command}
 use Rattle.wire.proofs.Suits.{both}
 use Rattle.reader.specs.Reading.{outside, Event, nothing, brokenFrame, heard}
 use Rattle.reader.proofs.RoundTrip.{frame-size}
 use Rattle.line.specs.Turns.{Before, none, was, State, Carried, Turn, Session, switchedOn, repeats, session}
-use Rattle.tries.specs.Tries.{Arrival, whole, replaced, cut, mayArrive, arriving, Begun, clear, begun, leaves, startBrings, damageBrings, brings}
-use Rattle.line.specs.Delivery.{isWhole, Sent, all, any, mayCome, differ, differsFrom, commands, triesArriving, allArriving, triesLeave, carryAll}
+use Rattle.tries.specs.Tries.{Arrival, whole, replaced, cut, mayArrive, arriving, Begun, clear, begun, leaves, startBrings, lostStartBrings, damageBrings, brings}
+use Rattle.line.specs.Delivery.{isWhole, Sent, all, any, mayCome, differsFrom, commands, triesArriving, allArriving, triesLeave, carryAll}
 use Rattle.line.specs.Heard.{allMayCome, messages, triesHeard, allHeard, newAfter, withoutRepeats, lacksLast, noneLacksLast, arrivedWhole, neighboursDiffer}
 use Rattle.tries.specs.TryRead.{standsAt, Fits}
 use Rattle.tries.proofs.Trying.{try-read}
 use Rattle.line.proofs.Sessions.{device, Reaction, endingAt, behind, session-append, onFrame, frame-again, frame-new, reacts}
-use Rattle.line.proofs.Delivered.{any-try}
+use Rattle.line.proofs.Delivered.{same, New, new-next, new-none, any-try}
 
 -- what is new, behind a frame or none
 abbrev newBehind : Before → List Message → List Message
@@ -183,3 +183,133 @@ module _ {B : Type 0} (carry : B → Message → Carried B) where
         ap (λ (z : Session B). z .carried) brought ∙ new .0 ∙ told,
         ap (λ (z : Session B). z .state .books) brought ∙ new .1 ∙ ap (carryAll carry books) told,
       )
+
+-- where no try lacks only its last byte, exactly the whole ones are heard
+abbrev wholes : Message → List Arrival → List Message
+wholes m [] = []
+wholes m (a ∷ rest) = cond (isWhole a) (m ∷ []) [] ++ wholes m rest
+
+abbrev allWholes : List Sent → List Message
+allWholes [] = []
+allWholes (c ∷ cs) = wholes (c .command) (c .tries) ++ allWholes cs
+
+abbrev LacksMore : Begun → Type 0
+LacksMore clear = Unit {0}
+LacksMore (begun n count) = eqb (count + 1) (length (frame Command n)) ≡ false
+
+start-silent : (b : Begun) (es : List Event) → messages (startBrings b ++ es) ≡ messages es
+start-silent clear es = refl
+start-silent (begun n count) es = go (ltb 1 count)
+  where
+    go : (t : Bool) → messages (cond t (brokenFrame ∷ []) [] ++ es) ≡ messages es
+    go true = refl
+    go false = refl
+
+damage-silent : (size at byte : ℕ) → messages (damageBrings size at byte) ≡ []
+damage-silent size at byte = go (eqb byte 0x01 && (ltb 1 at && ltb (at + 1) size))
+  where
+    go : (t : Bool) → messages (cond t (brokenFrame ∷ brokenFrame ∷ []) (brokenFrame ∷ [])) ≡ []
+    go true = refl
+    go false = refl
+
+lost-silent : (b : Begun) (byte : ℕ) → LacksMore b → messages (lostStartBrings Command b byte) ≡ []
+lost-silent clear byte l = refl
+lost-silent (begun n count) byte l = go (eqb byte 0x03) (eqb (count + 1) (length (frame Command n))) l
+  where
+    go : (s t : Bool) → t ≡ false → messages (cond (s && t) (heard n ∷ []) (brokenFrame ∷ [])) ≡ []
+    go true true e = absurd (false≢true (sym e))
+    go true false e = refl
+    go false t e = refl
+
+try-heard : (m : Message) (a : Arrival) (b : Begun) → LacksMore b → messages (brings Command b m a) ≡ cond (isWhole a) (m ∷ []) []
+try-heard m whole b l = start-silent b (heard m ∷ [])
+try-heard m (replaced zero byte) b l = lost-silent b byte l
+try-heard m (replaced (suc i) byte) b l =
+    start-silent b (damageBrings (length (frame Command m)) (suc i) byte) ∙ damage-silent (length (frame Command m)) (suc i) byte
+try-heard m (cut zero) b l = refl
+try-heard m (cut (suc n)) b l = ap messages (sym (append-nil (startBrings b))) ∙ start-silent b []
+
+try-lacks : (m : Message) → sendable Command m ≡ true → (a : Arrival) → not (lacksLast m a) ≡ true → (b : Begun) → LacksMore b → LacksMore (leaves Command b m a)
+try-lacks m can whole e b l = tt
+try-lacks m can (replaced at byte) e b l = go (eqb byte 0x01 && eqb (at + 1) (length (frame Command m)))
+  where
+    go : (t : Bool) → LacksMore (cond t (begun m 1) clear)
+    go true = ne-eqb (1 + 1) (length (frame Command m)) (λ q. omega (arith, frame-size Command m can .0))
+    go false = tt
+try-lacks m can (cut zero) e b l = l
+try-lacks m can (cut (suc n)) e b l = not-true (eqb (suc n + 1) (length (frame Command m))) e
+
+tries-whole : (m : Message) → sendable Command m ≡ true → (tries : List Arrival) → all (λ a. not (lacksLast m a)) tries ≡ true → (b : Begun) → LacksMore b
+    → (triesHeard b m tries ≡ wholes m tries) × LacksMore (triesLeave b m tries)
+tries-whole m can [] e b l = (refl, l)
+tries-whole m can (a ∷ rest) e b l =
+    let two = both (not (lacksLast m a)) (all (λ a. not (lacksLast m a)) rest) e in
+    let others = tries-whole m can rest (two .1) (leaves Command b m a) (try-lacks m can a (two .0) b l) in (
+      ap (λ z. z ++ triesHeard (leaves Command b m a) m rest) (try-heard m a b l) ∙ ap (λ z. cond (isWhole a) (m ∷ []) [] ++ z) (others .0),
+      others .1,
+    )
+
+all-whole : (cs : List Sent) → allMayCome cs ≡ true → noneLacksLast cs ≡ true → (b : Begun) → LacksMore b → allHeard b cs ≡ allWholes cs
+all-whole [] e f b l = refl
+all-whole (c ∷ cs) e f b l =
+    let m = c .command in
+    let may = both (mayCome c) (allMayCome cs) e in
+    let can = both (sendable Command m) (all (mayArrive (frame Command m)) (c .tries)) (may .0) in
+    let two = both (all (λ a. not (lacksLast m a)) (c .tries)) (noneLacksLast cs) f in
+    let own = tries-whole m (can .0) (c .tries) (two .0) b l in
+    ap (λ z. z ++ allHeard (triesLeave b m (c .tries)) cs) (own .0)
+    ∙ ap (λ z. wholes m (c .tries) ++ z) (all-whole cs (may .1) (two .1) (triesLeave b m (c .tries)) (own .1))
+
+-- of the whole tries of one command the first is new, and no other
+again-old : (m : Message) (tries : List Arrival) (rest : List Message) → newAfter m (wholes m tries ++ rest) ≡ newAfter m rest
+again-old m [] rest = refl
+again-old m (whole ∷ tries) rest =
+    ap (λ t. cond (not t) (m ∷ []) [] ++ newAfter m (wholes m tries ++ rest)) (same m) ∙ again-old m tries rest
+again-old m (replaced at byte ∷ tries) rest = again-old m tries rest
+again-old m (cut count ∷ tries) rest = again-old m tries rest
+
+first-new : (before : Before) (m : Message) → repeats before m ≡ false → (tries : List Arrival) (rest : List Message)
+    → newBehind before (wholes m tries ++ rest) ≡ cond (any isWhole tries) (m ∷ newAfter m rest) (newBehind before rest)
+first-new before m d [] rest = refl
+first-new before m d (whole ∷ tries) rest =
+    other-behind before m (wholes m tries ++ rest) [] d ∙ ap (λ z. m ∷ z) (sym (new-behind m [] (wholes m tries ++ rest)) ∙ again-old m tries rest)
+first-new before m d (replaced at byte ∷ tries) rest = first-new before m d tries rest
+first-new before m d (cut count ∷ tries) rest = first-new before m d tries rest
+
+none-whole : (m : Message) (tries : List Arrival) → any isWhole tries ≡ false → wholes m tries ≡ []
+none-whole m [] e = refl
+none-whole m (whole ∷ tries) e = absurd (false≢true (sym e))
+none-whole m (replaced at byte ∷ tries) e = none-whole m tries e
+none-whole m (cut count ∷ tries) e = none-whole m tries e
+
+whole-new : (cs : List Sent) (before : Before) → New before (arrivedWhole cs) → neighboursDiffer (arrivedWhole cs) ≡ true
+    → newBehind before (allWholes cs) ≡ commands (arrivedWhole cs)
+whole-new [] none n e = refl
+whole-new [] (was seq code answer) n e = refl
+whole-new (c ∷ cs) before n e = go (any isWhole (c .tries)) refl n e (whole-new cs)
+  where
+    m : Message
+    m = c .command
+
+    here : Bool → List Sent
+    here t = cond t (c ∷ []) [] ++ arrivedWhole cs
+
+    go : (t : Bool) → any isWhole (c .tries) ≡ t → New before (here t) → neighboursDiffer (here t) ≡ true
+        → ((last : Before) → New last (arrivedWhole cs) → neighboursDiffer (arrivedWhole cs) ≡ true → newBehind last (allWholes cs) ≡ commands (arrivedWhole cs))
+        → newBehind before (wholes m (c .tries) ++ allWholes cs) ≡ commands (here t)
+    go true w n e rest =
+        let two = both (differsFrom m (arrivedWhole cs)) (neighboursDiffer (arrivedWhole cs)) e in
+        first-new before m n (c .tries) (allWholes cs)
+        ∙ ap (λ t. cond t (m ∷ newAfter m (allWholes cs)) (newBehind before (allWholes cs))) w
+        ∙ ap (λ z. m ∷ z) (new-behind m [] (allWholes cs) ∙ rest (was (m .seq) (m .code) []) (new-next m [] (arrivedWhole cs) (two .0)) (two .1))
+    go false w n e rest = ap (λ z. newBehind before (z ++ allWholes cs)) (none-whole m (c .tries) w) ∙ rest before n e
+
+-- the theorem in the customer's words: the device carries out exactly those commands of which a try arrived whole, each once and in order
+pub carries-out-those-whole : {B : Type 0} (carry : B → Message → Carried B) (cs : List Sent) → allMayCome cs ≡ true → noneLacksLast cs ≡ true
+    → neighboursDiffer (arrivedWhole cs) ≡ true → (books : B)
+    → (session carry (switchedOn books) (allArriving cs) .carried ≡ commands (arrivedWhole cs))
+    × (session carry (switchedOn books) (allArriving cs) .state .books ≡ carryAll carry books (commands (arrivedWhole cs)))
+carries-out-those-whole carry cs e f d books =
+    let heard-so = carries-out-what-is-heard carry cs e books in
+    let those = ap withoutRepeats (all-whole cs e f clear tt) ∙ whole-new cs none (new-none (arrivedWhole cs)) d in
+    (heard-so .0 ∙ those, heard-so .1 ∙ ap (carryAll carry books) those)

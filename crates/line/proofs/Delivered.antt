@@ -19,7 +19,7 @@ use Rattle.tries.proofs.Trying.{try-read}
 use Rattle.line.proofs.Sessions.{device, Reaction, endingAt, behind, session-append, session-news, frame-again, frame-new, reacts}
 
 -- a command is its own repeat
-same : (m : Message) → eqb (m .seq) (m .seq) && eqb (m .code) (m .code) ≡ true
+pub same : (m : Message) → eqb (m .seq) (m .seq) && eqb (m .code) (m .code) ≡ true
 same m = rw (eq-eqb (m .seq) (m .seq) refl, eq-eqb (m .code) (m .code) refl)
 
 or-more : (d h r : Bool) → d || r ≡ true → (d || h) || r ≡ true
@@ -32,6 +32,19 @@ once : (m : Message) (d h : Bool) → carriedIn m d h ++ carriedIn m (d || h) tr
 once m true h = refl
 once m false true = refl
 once m false false = refl
+
+-- the first command is no repeat of the frame before
+abbrev pub New : Before → List Sent → Type 0
+New before [] = Unit {0}
+New before (c ∷ cs) = repeats before (c .command) ≡ false
+
+pub new-next : (m : Message) (answer : List ℕ) (cs : List Sent) → differsFrom m cs ≡ true → New (was (m .seq) (m .code) answer) cs
+new-next m answer [] e = tt
+new-next m answer (c ∷ cs) e = not-true (eqb (m .seq) (c .command .seq) && eqb (m .code) (c .command .code)) e
+
+pub new-none : (cs : List Sent) → New none cs
+new-none [] = tt
+new-none (c ∷ cs) = refl
 
 module _ {B : Type 0} (carry : B → Message → Carried B) where
   -- any try, at any device: what it brings, answered
@@ -221,19 +234,6 @@ module _ {B : Type 0} (carry : B → Message → Carried B) where
           fits = o .fits;
           left = o .left;
         }
-
-  -- the first command is no repeat of the frame before
-  abbrev New : Before → List Sent → Type 0
-  New before [] = Unit {0}
-  New before (c ∷ cs) = repeats before (c .command) ≡ false
-
-  new-next : (m : Message) (answer : List ℕ) (cs : List Sent) → differsFrom m cs ≡ true → New (was (m .seq) (m .code) answer) cs
-  new-next m answer [] e = tt
-  new-next m answer (c ∷ cs) e = not-true (eqb (m .seq) (c .command .seq) && eqb (m .code) (c .command .code)) e
-
-  new-none : (cs : List Sent) → New none cs
-  new-none [] = tt
-  new-none (c ∷ cs) = refl
 
   -- what stands begun between two commands is the frame before
   abbrev Left : Before → List Sent → Begun → Type 0

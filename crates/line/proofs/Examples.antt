@@ -7,6 +7,7 @@ use Rattle.line.specs.Turns.{Carried, switchedOn, session}
 use Rattle.tries.specs.Tries.{whole, replaced, cut, clear}
 use Rattle.line.specs.Delivery.{Sent, delivery, allArriving}
 use Rattle.line.specs.Heard.{allHeard, withoutRepeats}
+use Rattle.line.proofs.AtMostOnce.{carries-out-those-whole}
 use Rattle.line.proofs.Delivered.{idle, carries-out-that-very-list}
 
 abbrev status : Message
@@ -49,6 +50,19 @@ lossy-carried = refl
 
 lossy-done : withoutRepeats (allHeard clear lossy) ≡ status ∷ commandOf 0x21 74 [] ∷ commandOf 0x23 74 [] ∷ []
 lossy-done = refl
+
+-- with one byte less of it none lacks only its last byte, and exactly those of which a try arrived whole are carried out
+abbrev damaged : List Sent
+damaged =
+    record { command = status; tries = cut 8 ∷ [] }
+    ∷ record { command = commandOf 0x21 74 []; tries = replaced 0 0x03 ∷ whole ∷ whole ∷ [] }
+    ∷ record { command = commandOf 0x22 74 []; tries = replaced 3 0x01 ∷ cut 4 ∷ [] }
+    ∷ record { command = commandOf 0x23 74 []; tries = whole ∷ [] }
+    ∷ []
+
+pub those-whole : {B : Type 0} (carry : B → Message → Carried B) (books : B)
+    → session carry (switchedOn books) (allArriving damaged) .carried ≡ commandOf 0x21 74 [] ∷ commandOf 0x23 74 [] ∷ []
+those-whole carry books = carries-out-those-whole carry damaged refl refl refl books .0
 
 -- a SEQ that comes again with the same CMD, all between it lost: a repeat, so that neighbours among those that arrive must differ
 lost-between : withoutRepeats (allHeard clear (

@@ -1,6 +1,6 @@
 -- "At most once": what is carried out of a list of commands when any of their tries, or all, may be lost. Nothing is asked of how many arrive
 -- whole, nor of neighbours.
-use Prim.Native.Nat.{ℕ, _+_}
+use Prim.Native.Nat.{_+_}
 use mathlib.Core.Bool.{Bool, true, false, not, cond, _&&_}
 use mathlib.Core.List.{List, [], _∷_, _++_}
 use lib.Dec.{eqb}
