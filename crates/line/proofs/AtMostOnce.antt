@@ -129,7 +129,7 @@ module _ {B : Type 0} (carry : B → Message → Carried B) where
       let mid = leaves Command b m a in
       let others = tries-brought m can rest (two .1) mid (try-read Command m can a (two .0) b f .fits) in (
         brought-append b mid (triesLeave mid m rest) (arriving sent a) (triesArriving sent rest) (brings Command b m a) (triesBrought mid m rest)
-        (any-try carry m can a (two .0) b f) (others .0),
+            (any-try carry m can a (two .0) b f) (others .0),
         others .1,
       )
 

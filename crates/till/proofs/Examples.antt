@@ -1,8 +1,12 @@
 -- Document 01's own bytes, and the fault that this project is to rule out.
 use mathlib.Core.Path.{_≡_, refl}
-use mathlib.Core.List.{List, [], _∷_}
+use mathlib.Core.List.{List, [], _∷_, _++_}
+use Rattle.wire.specs.Frame.{commandOf, frame}
+use Rattle.wire.specs.declared.Kind.the-variants.{Command}
 use Rattle.till.specs.Turns.{freshState, seqAfter, command, byte, timeout}
 use Rattle.till.specs.History.{Lent, history, words, putsOf, heardBytes, seqOf}
+use Rattle.till.specs.Handed.{handedIn}
+use Rattle.till.specs.Fifth.{FifthFails}
 use Rattle.till.specs.declared.Word.the-variants.{Idle, Waiting, SendAgain, Answered, Unfinished, NotSent}
 use Prim.Native.Nat.{ℕ}
 
@@ -40,3 +44,14 @@ answered = refl
 -- "after FFh comes 20h"
 goes-round : (seqAfter 0xFF ≡ 0x20) × ((seqOf 223 ≡ 0xFF) × (seqOf 224 ≡ 0x20))
 goes-round = (refl, (refl, refl))
+
+-- two commands with their frames; what comes between takes none
+handed-out : handedIn (nak ∷ status74 ∷ late ∷ status74 ∷ nak ∷ heardBytes answer74 ++ (late ∷ status74 ∷ late ∷ []))
+    ≡ record { command = commandOf 0x20 74 []; frames = frame74 ∷ frame74 ∷ frame74 ∷ [] }
+    ∷ record { command = commandOf 0x21 74 []; frames = frame Command (commandOf 0x21 74 []) ∷ frame Command (commandOf 0x21 74 []) ∷ [] }
+    ∷ []
+handed-out = refl
+
+-- and there are such histories: too short a buffer and a second command between the tries count for nothing
+there-is-a-fifth : FifthFails (nak ∷ []) status74 (late ∷ nak ∷ record { size = 209; happens = timeout } ∷ late ∷ status74 ∷ nak ∷ []) late
+there-is-a-fifth = record { code = 74; content = []; count = 10; orders = refl; waits = refl; goes-on = refl; four = refl; one-more = refl }
