@@ -23,7 +23,7 @@ use Rattle.line.proofs.Sessions.{device, Reaction, endingAt, behind, se
 use Rattle.line.proofs.Delivered.{same, New, new-next, new-none, any-try}
 
 -- what is new, behind a frame or none
-abbrev newBehind : Before → List Message → List Message
+abbrev pub newBehind : Before → List Message → List Message
 newBehind none ms = withoutRepeats ms
 newBehind (was seq code answer) [] = []
 newBehind (was seq code answer) (n ∷ ns) = cond (eqb seq (n .seq) && eqb code (n .code)) [] (n ∷ []) ++ newAfter n ns
@@ -37,7 +37,7 @@ new-behind m answer [] = refl
 new-behind m answer (n ∷ ns) = ap (λ z. z ++ newAfter n ns) (not-cond (eqb (m .seq) (n .seq) && eqb (m .code) (n .code)) n)
 
 -- a repeat has the SEQ and CMD of the frame before: behind it the same is new
-same-behind : (before : Before) (n : Message) (ns : List Message) → repeats before n ≡ true → newBehind before (n ∷ ns) ≡ newBehind before ns
+pub same-behind : (before : Before) (n : Message) (ns : List Message) → repeats before n ≡ true → newBehind before (n ∷ ns) ≡ newBehind before ns
 same-behind none n ns e = absurd (false≢true e)
 same-behind (was seq code answer) n ns e =
     let two = both (eqb seq (n .seq)) (eqb code (n .code)) e in
@@ -45,7 +45,7 @@ same-behind (was seq code answer) n ns e =
     ∙ new-behind n answer ns
     ∙ (λ i. newBehind (was (sym (eqb-true seq (n .seq) (two .0)) i) (sym (eqb-true code (n .code) (two .1)) i) answer) ns)
 
-other-behind : (before : Before) (n : Message) (ns : List Message) (answer : List ℕ) → repeats before n ≡ false
+pub other-behind : (before : Before) (n : Message) (ns : List Message) (answer : List ℕ) → repeats before n ≡ false
     → newBehind before (n ∷ ns) ≡ n ∷ newBehind (was (n .seq) (n .code) answer) ns
 other-behind none n ns answer e = ap (λ z. n ∷ z) (new-behind n answer ns)
 other-behind (was seq code last) n ns answer e =
@@ -197,7 +197,7 @@ abbrev LacksMore : Begun → Type 0
 LacksMore clear = Unit {0}
 LacksMore (begun n count) = eqb (count + 1) (length (frame Command n)) ≡ false
 
-start-silent : (b : Begun) (es : List Event) → messages (startBrings b ++ es) ≡ messages es
+pub start-silent : (b : Begun) (es : List Event) → messages (startBrings b ++ es) ≡ messages es
 start-silent clear es = refl
 start-silent (begun n count) es = go (ltb 1 count)
   where
@@ -205,7 +205,7 @@ start-silent (begun n count) es = go (ltb 1 count)
     go true = refl
     go false = refl
 
-damage-silent : (size at byte : ℕ) → messages (damageBrings size at byte) ≡ []
+pub damage-silent : (size at byte : ℕ) → messages (damageBrings size at byte) ≡ []
 damage-silent size at byte = go (eqb byte 0x01 && (ltb 1 at && ltb (at + 1) size))
   where
     go : (t : Bool) → messages (cond t (brokenFrame ∷ brokenFrame ∷ []) (brokenFrame ∷ [])) ≡ []

@@ -2,5 +2,6 @@ pub mod Calling
 pub mod Sessions
 pub mod Delivered
 pub mod AtMostOnce
+pub mod PartOf
 pub mod Ended
 pub mod Examples

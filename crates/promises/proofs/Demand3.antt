@@ -3,10 +3,10 @@
 -- whole; no byte is lost or added. Then the device carries out that very list, each command once and in order, by demand 2's rules. So two
 -- different lists never arrive as the same bytes." Request 2026-11: "a try may also arrive as any beginning of its frame, from nothing to all but
 -- the last byte, with the rest lost." (`line/specs/Delivery.antt` says this of a list with its tries: `delivery`, `allArriving`; `tries/specs/Tries.antt` of one try.)
-use mathlib.Core.Path.{_≡_, refl, sym, ap, _∙_}
+use mathlib.Core.Path.{_≡_, refl, sym, ap, _∙_, subst}
 use mathlib.Core.Bool.{Bool, true, false, cond, not, _&&_, false≢true}
 use mathlib.Core.Logic.{_⊎_, inl, inr}
-use mathlib.Core.List.{List, [], _∷_, _++_}
+use mathlib.Core.List.{List, [], _∷_, _++_, Sublist}
 use Prim.Native.Nat.{ℕ, zero, suc, _+_}
 use lib.Dec.{ltb, eqb}
 use lib.ListN.{length, replicate}
@@ -24,6 +24,7 @@ use Rattle.line.specs.Delivery.{isWhole, Sent, all, any, tried, differsFrom, de
 use Rattle.line.specs.Heard.{allMayCome, allHeard, withoutRepeats, noneLacksLast, arrivedWhole, neighboursDiffer}
 use Rattle.line.proofs.Delivered.{carries-out-that-very-list, brings-for-each-try, same-bytes-same-list}
 use Rattle.line.proofs.AtMostOnce.{carries-out-what-is-heard, carries-out-those-whole}
+use Rattle.line.proofs.PartOf.{carries-out-a-part}
 use Rattle.line.proofs.Ended.{ended-by-the-next}
 use Rattle.till.specs.History.{Lent, seqOf}
 use Rattle.till.specs.Handed.{Handed, handedIn, AllInPlace}
@@ -83,6 +84,10 @@ pub carries-out-what-was-heard : (cs : List Sent) → allMayCome cs ≡ true →
     → (session carry (switchedOn books) (allArriving cs) .carried ≡ withoutRepeats (allHeard clear cs))
     × (session carry (switchedOn books) (allArriving cs) .state .books ≡ carryAll carry books (withoutRepeats (allHeard clear cs)))
 carries-out-what-was-heard = carries-out-what-is-heard carry
+
+-- so a part of the list in its order: each command at most once
+pub carries-out-at-most-once : (cs : List Sent) → allMayCome cs ≡ true → (books : Books) → Sublist (session carry (switchedOn books) (allArriving cs) .carried) (commands cs)
+carries-out-at-most-once = carries-out-a-part carry
 
 -- "the device carries out exactly those commands of which a try arrived whole (where these neighbours differ)", as long as no cut try lacks only its last byte
 pub carries-out-those-that-arrived : (cs : List Sent) → allMayCome cs ≡ true → noneLacksLast cs ≡ true → neighboursDiffer (arrivedWhole cs) ≡ true → (books : Books)
@@ -163,14 +168,18 @@ the-till-s-commands-are-carried-out ls ways e w =
       ap (λ bytes. recording bytes .state .books) (x .same-bytes) ∙ all-done .1 ∙ ap (carryAll carry freshBooks) (x .same-commands),
     )
 
--- and at most once, if whole ones are missing
+-- and each at most once and in order, if whole ones are missing
 pub the-till-s-commands-at-most-once : (ls : List Lent) (ways : List (List Arrival)) → allArrive (handedIn ls) ways ≡ true
     → let heard-of = withoutRepeats (allHeard clear (overTheLine (handedIn ls) ways)) in
     (recording (bytesArriving (handedIn ls) ways) .carried ≡ heard-of)
     × (recording (bytesArriving (handedIn ls) ways) .state .books ≡ carryAll carry freshBooks heard-of)
+    × Sublist (recording (bytesArriving (handedIn ls) ways) .carried) (takenCommands (handedIn ls))
 the-till-s-commands-at-most-once ls ways e =
     let x = crosses (handedIn ls) 0 (frames-are-tries ls) ways e in
-    let heard-so = carries-out-what-is-heard carry (overTheLine (handedIn ls) ways) (x .may-come) freshBooks in (
+    let cs = overTheLine (handedIn ls) ways in
+    let heard-so = carries-out-what-is-heard carry cs (x .may-come) freshBooks in (
       ap (λ bytes. recording bytes .carried) (x .same-bytes) ∙ heard-so .0,
       ap (λ bytes. recording bytes .state .books) (x .same-bytes) ∙ heard-so .1,
+      subst (λ ms. Sublist (recording (bytesArriving (handedIn ls) ways) .carried) ms) (x .same-commands)
+          (subst (λ bytes. Sublist (recording bytes .carried) (commands cs)) (sym (x .same-bytes)) (carries-out-a-part carry cs (x .may-come) freshBooks)),
     )
