@@ -16,7 +16,7 @@ use Rattle.reader.proofs.RoundTrip.{frame-size}
 use Rattle.line.specs.Turns.{Before, none, was, State, Carried, Turn, Session, switchedOn, repeats, session}
 use Rattle.tries.specs.Tries.{Arrival, whole, replaced, cut, mayArrive, arriving, Begun, clear, begun, leaves, startBrings, lostStartBrings, damageBrings, brings}
 use Rattle.line.specs.Delivery.{isWhole, Sent, all, any, mayCome, differsFrom, commands, triesArriving, allArriving, triesLeave, carryAll}
-use Rattle.line.specs.Heard.{allMayCome, messages, triesHeard, allHeard, newAfter, withoutRepeats, lacksLast, noneLacksLast, arrivedWhole, neighboursDiffer}
+use Rattle.line.specs.AtMostOnce.{allMayCome, messages, triesHeard, allHeard, newAfter, withoutRepeats, lacksLast, noneLacksLast, arrivedWhole, neighboursDiffer}
 use Rattle.tries.specs.TryRead.{standsAt, Fits}
 use Rattle.tries.proofs.Trying.{try-read}
 use Rattle.line.proofs.Sessions.{device, Reaction, endingAt, behind, session-append, onFrame, frame-again, frame-new, reacts}

@@ -6,7 +6,7 @@ use Rattle.wire.specs.Frame.{Message, commandOf}
 use Rattle.line.specs.Turns.{Carried, switchedOn, session}
 use Rattle.tries.specs.Tries.{whole, replaced, cut, clear}
 use Rattle.line.specs.Delivery.{Sent, delivery, allArriving}
-use Rattle.line.specs.Heard.{allHeard, withoutRepeats}
+use Rattle.line.specs.AtMostOnce.{allHeard, withoutRepeats}
 use Rattle.line.proofs.AtMostOnce.{carries-out-those-whole}
 use Rattle.line.proofs.Delivered.{idle, carries-out-that-very-list}
 

@@ -12,7 +12,7 @@ use Rattle.reader.specs.Reading.{brokenFrame, heard}
 use Rattle.line.specs.Turns.{Before, none, was, Carried, switchedOn, repeats, session}
 use Rattle.tries.specs.Tries.{Arrival, whole, replaced, cut, Begun, clear, begun, leaves, startBrings, lostStartBrings, damageBrings, brings}
 use Rattle.line.specs.Delivery.{Sent, commands, allArriving, triesLeave}
-use Rattle.line.specs.Heard.{allMayCome, messages, triesHeard, allHeard}
+use Rattle.line.specs.AtMostOnce.{allMayCome, messages, triesHeard, allHeard}
 use Rattle.line.proofs.Delivered.{same}
 use Rattle.line.proofs.AtMostOnce.{newBehind, same-behind, other-behind, start-silent, damage-silent, carries-out-what-is-heard}
 

@@ -1,4 +1,4 @@
 pub mod Turns
 pub mod Calls
 pub mod Delivery
-pub mod Heard
+pub mod AtMostOnce

@@ -21,7 +21,7 @@ use Rattle.books.specs.declared.Books.{Books}
 use Rattle.line.specs.Turns.{Before, switchedOn, session}
 use Rattle.tries.specs.Tries.{Arrival, cut, mayArrive, arriving, Begun, clear, begun, brings}
 use Rattle.line.specs.Delivery.{isWhole, Sent, all, any, tried, differsFrom, delivery, commands, triesArriving, allArriving, givenBack, carryAll, AllBring, EndedByTheNext}
-use Rattle.line.specs.Heard.{allMayCome, allHeard, withoutRepeats, noneLacksLast, arrivedWhole, neighboursDiffer}
+use Rattle.line.specs.AtMostOnce.{allMayCome, allHeard, withoutRepeats, noneLacksLast, arrivedWhole, neighboursDiffer}
 use Rattle.line.proofs.Delivered.{carries-out-that-very-list, brings-for-each-try, same-bytes-same-list}
 use Rattle.line.proofs.AtMostOnce.{carries-out-what-is-heard, carries-out-those-whole}
 use Rattle.line.proofs.PartOf.{carries-out-a-part}
@@ -78,24 +78,24 @@ the-code-tells-the-list cs e out orders =
     let both = carries-out-the-list cs e in
     (both .1, ap (λ z. sets orders 0 (listing z)) (both .0))
 
--- AT MOST ONCE: without "at least one whole". Whatever tries arrive, and in whatever of the ways, what is carried out is what is heard, told from the tries
+-- at most once, without "at least one whole": whatever tries arrive, and in whatever of the ways, what is carried out is what is heard, told from the tries
 -- alone, repeats left out
 pub carries-out-what-was-heard : (cs : List Sent) → allMayCome cs ≡ true → (books : Books)
     → (session carry (switchedOn books) (allArriving cs) .carried ≡ withoutRepeats (allHeard clear cs))
     × (session carry (switchedOn books) (allArriving cs) .state .books ≡ carryAll carry books (withoutRepeats (allHeard clear cs)))
 carries-out-what-was-heard = carries-out-what-is-heard carry
 
--- so a part of the list in its order: each command at most once
+-- and it is the list with some left out: each command at most once, and in order
 pub carries-out-at-most-once : (cs : List Sent) → allMayCome cs ≡ true → (books : Books) → Sublist (session carry (switchedOn books) (allArriving cs) .carried) (commands cs)
 carries-out-at-most-once = carries-out-a-part carry
 
--- "the device carries out exactly those commands of which a try arrived whole (where these neighbours differ)", as long as no cut try lacks only its last byte
+-- as long as no cut try lacks only its last byte (PROTOCOL 9.5), exactly those commands of which a try arrived whole, where these neighbours differ
 pub carries-out-those-that-arrived : (cs : List Sent) → allMayCome cs ≡ true → noneLacksLast cs ≡ true → neighboursDiffer (arrivedWhole cs) ≡ true → (books : Books)
     → (session carry (switchedOn books) (allArriving cs) .carried ≡ commands (arrivedWhole cs))
     × (session carry (switchedOn books) (allArriving cs) .state .books ≡ carryAll carry books (commands (arrivedWhole cs)))
 carries-out-those-that-arrived = carries-out-those-whole carry
 
--- FROM THE TILL END: its frames, whatever the line does to each, are such a list
+-- from the till end: its frames, whatever the line does to each, are such a list
 and-true-both : (s t : Bool) → s ≡ true → t ≡ true → s && t ≡ true
 and-true-both s t e f = rw (e, f)
 

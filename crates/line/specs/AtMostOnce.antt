@@ -1,5 +1,4 @@
--- "At most once": what is carried out of a list of commands when any of their tries, or all, may be lost. Nothing is asked of how many arrive
--- whole, nor of neighbours.
+-- At most once: what the statements speak of that ask for no whole try. A list of commands, each with any tries or none, and what of it is heard.
 use Prim.Native.Nat.{_+_}
 use mathlib.Core.Bool.{Bool, true, false, not, cond, _&&_}
 use mathlib.Core.List.{List, [], _∷_, _++_}
@@ -11,11 +10,12 @@ use Rattle.reader.specs.Reading.{Event, nothing, brokenFrame, heard}
 use Rattle.tries.specs.Tries.{Arrival, whole, replaced, cut, Begun, leaves, brings}
 use Rattle.line.specs.Delivery.{isWhole, Sent, all, any, mayCome, differ, differsFrom, triesLeave}
 
+-- PROTOCOL 9.1, of a whole list
 abbrev pub allMayCome : List Sent → Bool
 allMayCome [] = true
 allMayCome (c ∷ cs) = mayCome c && allMayCome cs
 
--- the messages among what tries bring, told from the tries alone
+-- PROTOCOL 9.4, 9.5: the frames heard among what tries bring, told from the tries alone
 abbrev pub messages : List Event → List Message
 messages [] = []
 messages (nothing ∷ es) = messages es
@@ -49,7 +49,7 @@ abbrev pub noneLacksLast : List Sent → Bool
 noneLacksLast [] = true
 noneLacksLast (c ∷ cs) = all (λ a. not (lacksLast (c .command) a)) (c .tries) && noneLacksLast cs
 
--- those of which a try arrived whole
+-- those commands of which a try arrived whole
 abbrev pub arrivedWhole : List Sent → List Sent
 arrivedWhole [] = []
 arrivedWhole (c ∷ cs) = cond (any isWhole (c .tries)) (c ∷ []) [] ++ arrivedWhole cs
