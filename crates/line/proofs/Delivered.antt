@@ -300,12 +300,12 @@ module _ {B : Type 0} (carry : B → Message → Carried B) where
   brings-for-each-try cs e books = delivered cs e books .bring
 
 -- a device that does nothing but hear
-abbrev pub idle : Unit {0} → Message → Carried (Unit {0})
-idle books m = record { number = 0; books = tt; answer = [] }
+abbrev pub hearsOnly : Unit {0} → Message → Carried (Unit {0})
+hearsOnly books m = record { number = 0; books = tt; answer = [] }
 
 -- "So two different lists never arrive as the same bytes."
 pub same-bytes-same-list : (cs ds : List Sent) → delivery cs ≡ true → delivery ds ≡ true → allArriving cs ≡ allArriving ds → commands cs ≡ commands ds
 same-bytes-same-list cs ds ec ed e =
-    sym (carries-out-that-very-list idle cs ec tt .0)
-    ∙ ap (λ bs. session idle (switchedOn tt) bs .carried) e
-    ∙ carries-out-that-very-list idle ds ed tt .0
+    sym (carries-out-that-very-list hearsOnly cs ec tt .0)
+    ∙ ap (λ bs. session hearsOnly (switchedOn tt) bs .carried) e
+    ∙ carries-out-that-very-list hearsOnly ds ed tt .0

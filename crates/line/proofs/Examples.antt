@@ -8,7 +8,7 @@ use Rattle.tries.specs.Tries.{whole, replaced, cut, clear}
 use Rattle.line.specs.Delivery.{Sent, delivery, allArriving}
 use Rattle.line.specs.AtMostOnce.{allHeard, withoutRepeats}
 use Rattle.line.proofs.AtMostOnce.{carries-out-those-whole}
-use Rattle.line.proofs.Delivered.{idle, carries-out-that-very-list}
+use Rattle.line.proofs.Delivered.{hearsOnly, carries-out-that-very-list}
 
 abbrev status : Message
 status = commandOf 0x20 74 []
@@ -45,7 +45,7 @@ lossy =
 lossy-heard : allHeard clear lossy ≡ status ∷ commandOf 0x21 74 [] ∷ commandOf 0x21 74 [] ∷ commandOf 0x23 74 [] ∷ []
 lossy-heard = refl
 
-lossy-carried : session idle (switchedOn tt) (allArriving lossy) .carried ≡ withoutRepeats (allHeard clear lossy)
+lossy-carried : session hearsOnly (switchedOn tt) (allArriving lossy) .carried ≡ withoutRepeats (allHeard clear lossy)
 lossy-carried = refl
 
 lossy-done : withoutRepeats (allHeard clear lossy) ≡ status ∷ commandOf 0x21 74 [] ∷ commandOf 0x23 74 [] ∷ []

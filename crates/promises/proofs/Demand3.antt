@@ -183,3 +183,13 @@ the-till-s-commands-at-most-once ls ways e =
       subst (λ ms. Sublist (recording (bytesArriving (handedIn ls) ways) .carried) ms) (x .same-commands)
           (subst (λ bytes. Sublist (recording bytes .carried) (commands cs)) (sym (x .same-bytes)) (carries-out-a-part carry cs (x .may-come) freshBooks)),
     )
+
+-- exactly those of which a frame arrived whole, where no cut one lacks only its last byte and these neighbours differ: the till end's SEQ comes again
+-- after 224 commands
+pub the-till-s-commands-that-arrived : (ls : List Lent) (ways : List (List Arrival)) → allArrive (handedIn ls) ways ≡ true
+    → noneLacksLast (overTheLine (handedIn ls) ways) ≡ true → neighboursDiffer (arrivedWhole (overTheLine (handedIn ls) ways)) ≡ true
+    → recording (bytesArriving (handedIn ls) ways) .carried ≡ commands (arrivedWhole (overTheLine (handedIn ls) ways))
+the-till-s-commands-that-arrived ls ways e f d =
+    let x = crosses (handedIn ls) 0 (frames-are-tries ls) ways e in
+    ap (λ bytes. recording bytes .carried) (x .same-bytes)
+    ∙ carries-out-those-that-arrived (overTheLine (handedIn ls) ways) (x .may-come) f d freshBooks .0

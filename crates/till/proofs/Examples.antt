@@ -54,4 +54,4 @@ handed-out = refl
 
 -- and there are such histories: too short a buffer and a second command between the tries count for nothing
 there-is-a-fifth : FifthFails (nak ∷ []) status74 (late ∷ nak ∷ record { size = 209; happens = timeout } ∷ late ∷ status74 ∷ nak ∷ []) late
-there-is-a-fifth = record { code = 74; content = []; count = 10; orders = refl; waits = refl; goes-on = refl; four = refl; one-more = refl }
+there-is-a-fifth = record { code = 74; content = []; count = 10; is-command = refl; is-taken = refl; not-ended = refl; four-failed = refl; one-more-fails = refl }

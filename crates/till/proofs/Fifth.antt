@@ -110,10 +110,10 @@ the-fifth-failed-try before taken during fifth h =
     let all : behind freshState (before ++ taken ∷ during) ≡ behind (says s taken .state) during = behind-append before (taken ∷ during) freshState in
     let first : says s taken .state ≡ firstTry (s .next) (h .code) (h .content) =
     subst (λ (x : Happening). says s (record { size = taken .size; happens = x }) .word ≡ Waiting (h .count)
-    → says s (record { size = taken .size; happens = x }) .state ≡ firstTry (s .next) (h .code) (h .content)) (sym (h .orders))
-    (taken-waits (s .next) (s .pending) (taken .size) (h .code) (h .content) (h .count)) (h .waits) in
+    → says s (record { size = taken .size; happens = x }) .state ≡ firstTry (s .next) (h .code) (h .content)) (sym (h .is-command))
+    (taken-waits (s .next) (s .pending) (taken .size) (h .code) (h .content) (h .count)) (h .is-taken) in
     subst (λ (z : State). Ends z fifth) (sym all)
     (ends-fifth (s .next) (h .code) (h .content) during fifth (says s taken .state) first
-    (sym (ap (λ (z : State). ends (marks z during)) one) ∙ h .goes-on)
-    (sym (ap (λ (z : State). failures z during) one) ∙ h .four)
-    (sym (ap (λ (z : State). failures z (fifth ∷ [])) all) ∙ h .one-more))
+    (sym (ap (λ (z : State). ends (marks z during)) one) ∙ h .not-ended)
+    (sym (ap (λ (z : State). failures z during) one) ∙ h .four-failed)
+    (sym (ap (λ (z : State). failures z (fifth ∷ [])) all) ∙ h .one-more-fails))

@@ -15,11 +15,11 @@ pub record FifthFails (before : List Lent) (taken : Lent) (during : List Lent) (
   pub code : ℕ
   pub content : List ℕ
   pub count : ℕ
-  pub orders : taken .happens ≡ command code content
-  pub waits : says (behind freshState before) taken .word ≡ Waiting count
-  pub goes-on : ends (marks (behind freshState (before ++ taken ∷ [])) during) ≡ false
-  pub four : failures (behind freshState (before ++ taken ∷ [])) during ≡ 4
-  pub one-more : failures (behind freshState (before ++ taken ∷ during)) (fifth ∷ []) ≡ 1
+  pub is-command : taken .happens ≡ command code content
+  pub is-taken : says (behind freshState before) taken .word ≡ Waiting count
+  pub not-ended : ends (marks (behind freshState (before ++ taken ∷ [])) during) ≡ false
+  pub four-failed : failures (behind freshState (before ++ taken ∷ [])) during ≡ 4
+  pub one-more-fails : failures (behind freshState (before ++ taken ∷ during)) (fifth ∷ []) ≡ 1
 
 -- "With no command waiting, bytes and timeouts say Idle and change nothing"; a command that is not taken says 8, and too short a buffer 7 before all else
 abbrev pub restWord : Happening → Word
