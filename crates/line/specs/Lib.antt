@@ -2,3 +2,4 @@ pub mod Turns
 pub mod Calls
 pub mod Listening
 pub mod Delivery
+pub mod AtMostOnce

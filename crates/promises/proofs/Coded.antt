@@ -40,9 +40,9 @@ module _ (l : Line) (b : Books) (frame last : List ℕ) (s : till.State) (small 
       go true few = record { number = refl; count = refl; buffer = refl; state = refl }
       go false few = record { number = refl; count = refl; buffer = refl; state = state-back l b frame last lasts byte small frames few }
 
-module _ (t : Till) (frame answer : List ℕ) (d : line.State Books) (frames : length frame ≡ 256) (answers : length answer ≡ 256) (small : Bytes (t .sent)) where
+module _ (t : Till) (frame answer : List ℕ) (d : line.State Books) (frames : length frame ≡ 256) (answers : length answer ≡ 256) (small : Bytes (t .slot)) where
   pub the-till-end-says : (buffer : List ℕ) (h : till.Happening)
       → let x = fields.turnOf t frame answer buffer h in
-      TillSays (fields.saidOf t x) (fields.framed frame (x .state .pending)) (fields.readIn answer (x .state .pending)) (sets buffer 0 (x .puts))
+      TillSays (fields.saidOf t x) (fields.framed frame (x .state .pending)) (fields.heldIn answer (x .state .pending)) (sets buffer 0 (x .puts))
       (reply (record { device = d; till = fields.stateOf t frame answer }) (atTill buffer h))
   the-till-end-says buffer h = record { number = refl; count = refl; bytes = refl; state = fields-follow t frame answer frames answers small buffer h }

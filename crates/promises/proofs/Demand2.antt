@@ -25,7 +25,7 @@ use Rattle.history.proofs.Histories.{every-history-agrees}
 use Rattle.device.specs.Carrying.{deedFor, answerTo, carry}
 use Rattle.device.specs.Recording.{recording}
 use Rattle.till.specs.Turns as turns
-use Rattle.till.specs.History.{history, line, words, behind}
+use Rattle.till.specs.History.{history, heardBytes, words, behind}
 use Rattle.till.specs.History as till
 use Rattle.till.specs.declared.Word.the-variants.{Waiting, Answered}
 use Rattle.till.proofs.Frames.{answer-heard}
@@ -58,9 +58,9 @@ every-answer-can-be-sent bytes m e =
 pub both-ends-speak-alike : (bytes : List ℕ) (m : Message) → sendable Command m ≡ true
     → (s : turns.State) (sent : List ℕ) (tries : ℕ) (place : Place) → s .pending ≡ turns.waits (m .seq) (m .code) sent tries place
     → let a = answerTo (booksAfter bytes) (m .seq) (m .code) (deedFor (booksAfter bytes) (parsedOf (m .code) (m .content))) in
-    let heard-bytes = line (carry (booksAfter bytes) m .answer) in
+    let heard-bytes = heardBytes (carry (booksAfter bytes) m .answer) in
     (words (history s heard-bytes) ≡ replicate (length (frame Answer a) - 1) (Waiting 0) ++ Answered (length (a .content ++ a .status)) ∷ [])
-    × ((till.given (history s heard-bytes) ≡ replicate (length (frame Answer a) - 1) [] ++ (a .content ++ a .status) ∷ [])
+    × ((till.putsOf (history s heard-bytes) ≡ replicate (length (frame Answer a) - 1) [] ++ (a .content ++ a .status) ∷ [])
     × (behind s heard-bytes ≡ record { next = s .next; pending = turns.idle }))
 both-ends-speak-alike bytes m e s sent tries place waiting =
     answer-heard s (m .seq) (m .code) sent tries place waiting
