@@ -112,7 +112,7 @@ module _ (l : Line) (b : Books) (frame last buffer : List ℕ) where
       → answering (after-hearing next) b (cond repeat Again (Order (m .seq) (m .code) (length (m .content)))) frame last buffer
       ≡ taken l frame last buffer (cond repeat (againTurn next) (orderTurn next m))
   whole-turn next m true same stands =
-      ap (λ z. gives 6 (after-hearing next) b (lastAnswer (beforeOf (l .previous) last)) z last buffer) (sym same)
+      ap (λ z. gives Again (after-hearing next) b (lastAnswer (beforeOf (l .previous) last)) z last buffer) (sym same)
   whole-turn next m false same stands =
       ap (λ z. orders (after-hearing next) (m .seq) (m .code) (carry b z) frame last buffer) (sym stands)
       ∙ ap (λ z. orders (after-hearing next) (m .seq) (m .code) (carry b m) z last buffer) (sym same)

@@ -26,6 +26,13 @@ abbrev pub isRepeat : Previous → ℕ → ℕ → Bool
 isRepeat Nothing seq code = false
 isRepeat (Frame s c count) seq code = eqb s seq && eqb c code
 
+-- document 01's number of each call, and its values: 0 (byte taken), 5 (broken frame), 6 (repeat); an order has the number that carrying it out gives
+abbrev pub callNumber : Call → (carried : ℕ) → ℕ
+callNumber Quiet carried = 0
+callNumber Nak carried = 5
+callNumber Again carried = 6
+callNumber (Order seq code count) carried = carried
+
 -- what reading brings asks for nothing (0), NAK (5), the last answer again (6), or is a command to carry out
 abbrev pub callFor : Previous → Heard → Call
 callFor p heards.Nothing = Quiet
