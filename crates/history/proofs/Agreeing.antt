@@ -6,6 +6,7 @@ use Prim.Native.Nat.{ℕ, _+_, _-_, _≤_, _<_}
 use native.Mathlib.Omega.{arith}
 use lib.ListN.{length}
 use borrow.Author.Tests.{eq-eqb, ne-eqb}
+use Rattle.kinds.specs.declared.Command.{Command}
 use Rattle.kinds.specs.declared.Command.the-variants.{OpenText, CloseText, Open, Sell, Close, Cancel, Closing, Drawer}
 use Rattle.kinds.specs.declared.Password.{Password}
 use Rattle.kinds.specs.declared.Sale.{Sale}
@@ -18,16 +19,19 @@ use Rattle.books.specs.Groups.{eight, at, sum}
 use Rattle.books.specs.Sound.{withReceiptOf}
 use Rattle.books.specs.declared.Books.{Books}
 use Rattle.books.specs.declared.Opened.the-variants as opened
-use Rattle.books.specs.declared.Shown.the-variants as shown
 use Rattle.books.proofs.Eight.{at-eight}
-use Rattle.deeds.specs.Deeds.{done, cleared}
+use Rattle.deeds.specs.Deeds.{cleared}
 use Rattle.history.specs.Agrees.{Agrees}
-use Rattle.history.specs.Entries.{Entry, entryOf}
+use Rattle.history.specs.Entries.{Entry}
 use Rattle.history.specs.History.{receiptSum, receiptTotal, added, daySum, putIn, takenOut}
 use Rattle.history.specs.Reached.{Receipted}
 use Rattle.history.proofs.Lists.{set-other, same-eight}
 use Rattle.history.proofs.Soundness.{zeros}
 use Rattle.history.proofs.Steps.{taken}
+
+-- a command done, whatever its answer shows
+abbrev pub doneWith : Command → List ℕ → Entry
+doneWith c seen = record { command = c; number = 0; shown = seen }
 
 -- nothing added, and nothing taken off
 pub kept : {x y : ℕ} → x ≡ y → x ≡ y + 0
@@ -52,9 +56,9 @@ less e f = rw (e, f)
 total-of : (es : List Entry) (r : Receipt) → Receipted r → ((g : ℕ) → g < 8 → at (r .groups) g ≡ receiptSum g es) → r .total ≡ receiptTotal es
 total-of es r h e = h .total ∙ ap sum (same-eight (at (r .groups)) (λ g. receiptSum g es) e)
 
-module _ (es : List Entry) (b : Books) (h : Agrees es b) where
+module _ (es : List Entry) (b : Books) (h : Agrees es b) (seen : List ℕ) where
   -- 38
-  pub text-opened : Agrees (entryOf OpenText (done b shown.All) ∷ es) (withCounters (withReceipt b opened.Text (b .receipt)) (record { all = b .counters .all + 1; fiscal = b .counters .fiscal }))
+  pub text-opened : Agrees (doneWith OpenText seen ∷ es) (withCounters (withReceipt b opened.Text (b .receipt)) (record { all = b .counters .all + 1; fiscal = b .counters .fiscal }))
   text-opened =
       record {
         cash = kept-cash es (h .cash);
@@ -62,8 +66,11 @@ module _ (es : List Entry) (b : Books) (h : Agrees es b) where
         opened = refl;
         groups = λ g lt. unchanged (h .groups g lt);
         total = kept-total es (h .total);
+        lines = kept (h .lines);
         paid = kept (h .paid);
         rest = less (kept-total es (h .total)) (kept (h .paid));
+        tried = h .tried;
+        settled = h .settled;
         day = λ g lt. kept (h .day g lt);
         n = kept (h .n);
         c = kept (h .c);
@@ -78,7 +85,7 @@ module _ (es : List Entry) (b : Books) (h : Agrees es b) where
       }
 
   -- 39
-  pub text-closed : Agrees (entryOf CloseText (done b shown.All) ∷ es) (withReceipt b opened.Nothing (b .receipt))
+  pub text-closed : Agrees (doneWith CloseText seen ∷ es) (withReceipt b opened.Nothing (b .receipt))
   text-closed =
       record {
         cash = kept-cash es (h .cash);
@@ -86,8 +93,11 @@ module _ (es : List Entry) (b : Books) (h : Agrees es b) where
         opened = refl;
         groups = λ g lt. unchanged (h .groups g lt);
         total = kept-total es (h .total);
+        lines = kept (h .lines);
         paid = kept (h .paid);
         rest = less (kept-total es (h .total)) (kept (h .paid));
+        tried = h .tried;
+        settled = h .settled;
         day = λ g lt. kept (h .day g lt);
         n = kept (h .n);
         c = kept (h .c);
@@ -103,7 +113,7 @@ module _ (es : List Entry) (b : Books) (h : Agrees es b) where
 
   -- 48
   pub receipt-opened : (op till : ℕ) (p : Password)
-      → Agrees (entryOf (Open op p till) (done b shown.AllAndFiscal) ∷ es)
+      → Agrees (doneWith (Open op p till) seen ∷ es)
       (withCounters (withReceipt b opened.Fiscal emptyReceipt) (record { all = b .counters .all + 1; fiscal = b .counters .fiscal + 1 }))
   receipt-opened op till p =
       record {
@@ -112,8 +122,11 @@ module _ (es : List Entry) (b : Books) (h : Agrees es b) where
         opened = refl;
         groups = λ g lt. zeros g;
         total = refl;
+        lines = refl;
         paid = refl;
         rest = refl;
+        tried = refl;
+        settled = refl;
         day = λ g lt. kept (h .day g lt);
         n = kept (h .n);
         c = kept (h .c);
@@ -128,7 +141,7 @@ module _ (es : List Entry) (b : Books) (h : Agrees es b) where
       }
 
   -- 56
-  pub receipt-closed : Agrees (entryOf Close (done b shown.AllAndFiscal) ∷ es) (withReceipt (withDay b (eight (withReceiptOf b))) opened.Nothing emptyReceipt)
+  pub receipt-closed : Agrees (doneWith Close seen ∷ es) (withReceipt (withDay b (eight (withReceiptOf b))) opened.Nothing emptyReceipt)
   receipt-closed =
       record {
         cash = kept-cash es (h .cash);
@@ -136,8 +149,11 @@ module _ (es : List Entry) (b : Books) (h : Agrees es b) where
         opened = refl;
         groups = λ g lt. zeros g;
         total = refl;
+        lines = refl;
         paid = refl;
         rest = refl;
+        tried = refl;
+        settled = refl;
         day = λ g lt. at-eight (withReceiptOf b) g lt ∙ omega (arith, h .day g lt, h .groups g lt);
         n = kept (h .n);
         c = kept (h .c);
@@ -152,7 +168,7 @@ module _ (es : List Entry) (b : Books) (h : Agrees es b) where
       }
 
   -- 60
-  pub receipt-cancelled : Agrees (entryOf Cancel (done b shown.Nothing) ∷ es) (withReceipt b opened.Nothing emptyReceipt)
+  pub receipt-cancelled : Agrees (doneWith Cancel seen ∷ es) (withReceipt b opened.Nothing emptyReceipt)
   receipt-cancelled =
       record {
         cash = kept-cash es (h .cash);
@@ -160,8 +176,11 @@ module _ (es : List Entry) (b : Books) (h : Agrees es b) where
         opened = refl;
         groups = λ g lt. zeros g;
         total = refl;
+        lines = refl;
         paid = refl;
         rest = refl;
+        tried = refl;
+        settled = refl;
         day = λ g lt. kept (h .day g lt);
         n = kept (h .n);
         c = kept (h .c);
@@ -176,7 +195,7 @@ module _ (es : List Entry) (b : Books) (h : Agrees es b) where
       }
 
   -- 69
-  pub day-closed : Agrees (entryOf (Closing true) (done b shown.Closure) ∷ es) (cleared b)
+  pub day-closed : Agrees (doneWith (Closing true) seen ∷ es) (cleared b)
   day-closed =
       record {
         cash = kept-cash es (h .cash);
@@ -184,8 +203,11 @@ module _ (es : List Entry) (b : Books) (h : Agrees es b) where
         opened = h .opened;
         groups = λ g lt. unchanged (h .groups g lt);
         total = kept-total es (h .total);
+        lines = kept (h .lines);
         paid = kept (h .paid);
         rest = less (kept-total es (h .total)) (kept (h .paid));
+        tried = h .tried;
+        settled = h .settled;
         day = λ g lt. zeros g;
         n = refl;
         c = refl;
@@ -201,7 +223,7 @@ module _ (es : List Entry) (b : Books) (h : Agrees es b) where
 
   -- 70
   pub put-in : (n : ℕ)
-      → Agrees (entryOf (Drawer (In n)) (done b shown.InDrawer) ∷ es)
+      → Agrees (doneWith (Drawer (In n)) seen ∷ es)
       (withDrawer b (record { cash = b .drawer .cash + n; put = b .drawer .put + n; taken = b .drawer .taken }))
   put-in n =
       record {
@@ -210,8 +232,11 @@ module _ (es : List Entry) (b : Books) (h : Agrees es b) where
         opened = h .opened;
         groups = λ g lt. unchanged (h .groups g lt);
         total = kept-total es (h .total);
+        lines = kept (h .lines);
         paid = kept (h .paid);
         rest = less (kept-total es (h .total)) (kept (h .paid));
+        tried = h .tried;
+        settled = h .settled;
         day = λ g lt. kept (h .day g lt);
         n = kept (h .n);
         c = kept (h .c);
@@ -226,7 +251,7 @@ module _ (es : List Entry) (b : Books) (h : Agrees es b) where
       }
 
   pub taken-out : (n : ℕ) → n ≤ b .drawer .cash
-      → Agrees (entryOf (Drawer (Out n)) (done b shown.InDrawer) ∷ es)
+      → Agrees (doneWith (Drawer (Out n)) seen ∷ es)
       (withDrawer b (record { cash = b .drawer .cash - n; put = b .drawer .put; taken = b .drawer .taken + n }))
   taken-out n l =
       record {
@@ -235,8 +260,11 @@ module _ (es : List Entry) (b : Books) (h : Agrees es b) where
         opened = h .opened;
         groups = λ g lt. unchanged (h .groups g lt);
         total = kept-total es (h .total);
+        lines = kept (h .lines);
         paid = kept (h .paid);
         rest = less (kept-total es (h .total)) (kept (h .paid));
+        tried = h .tried;
+        settled = h .settled;
         day = λ g lt. kept (h .day g lt);
         n = kept (h .n);
         c = kept (h .c);
@@ -255,9 +283,9 @@ line-here : (minus : Bool) (x p f : ℕ) → cond minus (x - p) (x + f) ≡ x + 
 line-here true x p f = omega arith
 line-here false x p f = omega arith
 
-module _ (es : List Entry) (b : Books) (h : Agrees es b) (s : Sale) where
+module _ (es : List Entry) (b : Books) (h : Agrees es b) (seen : List ℕ) (s : Sale) where
   abbrev sale : Entry
-  sale = entryOf (Sell s) (done b shown.Nothing)
+  sale = doneWith (Sell s) seen
 
   -- the group's sum, where the line is in this group, and where not
   abbrev sumIf : ℕ → Bool → ℕ
@@ -288,8 +316,11 @@ module _ (es : List Entry) (b : Books) (h : Agrees es b) (s : Sale) where
         opened = h .opened;
         groups = groups;
         total = total;
+        lines = ap (λ z. z + 1) (h .lines);
         paid = kept (h .paid);
         rest = less total (kept (h .paid));
+        tried = h .tried;
+        settled = h .settled;
         day = λ g lt. kept (h .day g lt);
         n = kept (h .n);
         c = kept (h .c);

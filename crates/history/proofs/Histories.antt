@@ -1,6 +1,6 @@
--- Cash, receipt, day and memory follow the whole history: the books agree with it after every list of commands.
+-- Cash, receipt, day and memory follow the whole history: the books agree with it after one command more.
 use mathlib.Core.Path.{_≡_, refl, sym, ap, _∙_}
-use mathlib.Core.Bool.{Bool, false, cond, _||_}
+use mathlib.Core.Bool.{Bool, true, false, cond, _&&_, _||_}
 use mathlib.Core.List.{List, [], _∷_}
 use Prim.Native.Nat.{ℕ, _+_, _-_, _≤_}
 use native.Mathlib.Omega.{arith}
@@ -10,24 +10,30 @@ use Rattle.kinds.specs.declared.Mode.the-variants.{Cash, N, C, D, B}
 use Rattle.books.specs.Books.{freshBooks}
 use Rattle.books.specs.Groups.{eight, at, sum}
 use Rattle.books.specs.declared.Books.{Books}
+use Rattle.books.specs.declared.Opened.{Opened}
 use Rattle.books.specs.declared.Opened.the-variants as opened
-use Rattle.books.specs.declared.Shown.the-variants as shown
+use Rattle.receipt.specs.declared.Receipt.{Receipt}
 use Rattle.deeds.specs.Deeds.{carriedOut}
 use Rattle.deeds.specs.declared.Deed.{Deed}
-use Rattle.history.specs.Agrees.{Agrees}
-use Rattle.history.specs.Entries.{Entry, Past, entryOf, did, carriedOn, fresh, historyOf}
-use Rattle.history.specs.History.{receiptSum, receiptTotal, added, takenOff, due, daySum, begins, closesDay, brought, by, byAny, served, inOf, outOf, once, openReceipt, paidSum, putIn, takenOut}
+use Rattle.history.specs.Agrees.{Agrees, toldBooks}
+use Rattle.history.specs.Digits.{priced}
+use Rattle.history.specs.Entries.{Entry, entryOf, did}
+use Rattle.history.specs.History.{receiptSum, receiptTotal, added, takenOff, due, daySum, begins, closesDay, brought, by, byAny, served, inOf, outOf, once, openReceipt, saysR, paidSum}
 use Rattle.history.specs.Reached.{Reached}
-use Rattle.history.proofs.Lists.{same-eight}
+use Rattle.history.proofs.Lists.{eight-at, same-eight}
 use Rattle.history.proofs.Soundness.{zeros}
 use Rattle.history.proofs.Agreeing.{less, text-opened, text-closed, receipt-opened, receipt-closed, receipt-cancelled, day-closed, put-in, taken-out, line-sold}
 use Rattle.history.proofs.Payments.{payment-made}
-use Rattle.history.proofs.Reaching.{reaching, fresh-reached, reached-stays, every-history-reached}
+use Rattle.history.proofs.Digits.{left-fits}
+use Rattle.history.proofs.Reaching.{reaching}
 use Rattle.history.proofs.Steps.{Step, refused, textOpens, textCloses, prints, opens, sells, subtotals, pays, closes, cancels, sums, clears, reports, looks, puts, takes, status, rates, taken}
 
 -- what an entry tells of the figures; a refusal, or a command that changes no sum, tells nothing
 record Tells : Type 0 where
   begins : Bool
+  sold : Bool
+  tried : Bool
+  full : Bool
   closes : Bool
   day : Bool
   all : Bool
@@ -44,6 +50,9 @@ abbrev tells : Entry → Tells
 tells e =
     record {
       begins = begins e;
+      sold = did 49 e;
+      tried = did 53 e;
+      full = did 53 e && saysR (e .shown);
       closes = closesDay e;
       day = did 56 e;
       all = did 38 e || did 48 e;
@@ -61,6 +70,9 @@ abbrev nothing : Tells
 nothing =
     record {
       begins = false;
+      sold = false;
+      tried = false;
+      full = false;
       closes = false;
       day = false;
       all = false;
@@ -89,6 +101,9 @@ module _ (es : List Entry) (b : Books) (h : Agrees es b) (e : Entry) (i : tells 
   same-total : receiptTotal es ≡ receiptTotal (e ∷ es)
   same-total = ap sum (same-eight (λ g. receiptSum g es) (λ g. receiptSum g (e ∷ es)) (λ g lt. same-group g))
 
+  same-flag : {x y d : Bool} → d ≡ false → x ≡ y → x ≡ cond (begins e) false (d || y)
+  same-flag {x} {y} {d} f k = k ∙ sym (ap (λ z. cond z false (d || y)) (part (λ t. t .begins)) ∙ ap (λ z. z || y) f)
+
   same-opened : openReceipt (e ∷ es) ≡ openReceipt es
   same-opened =
       ap (λ z. cond z opened.Fiscal (cond (did 38 e) opened.Text (cond (did 39 e || did 56 e || did 60 e) opened.Nothing (openReceipt es)))) (part (λ t. t .fiscal))
@@ -104,8 +119,11 @@ module _ (es : List Entry) (b : Books) (h : Agrees es b) (e : Entry) (i : tells 
         opened = h .opened ∙ sym same-opened;
         groups = λ g lt. h .groups g lt ∙ same-group g;
         total = h .total ∙ same-total;
+        lines = since (part (λ t. t .begins)) (ap once (part (λ t. t .sold))) (h .lines);
         paid = paid;
         rest = less (h .total ∙ same-total) paid;
+        tried = same-flag (part (λ t. t .tried)) (h .tried);
+        settled = same-flag (part (λ t. t .full)) (h .settled);
         day = λ g lt. since (part (λ t. t .closes)) (ap (λ z. cond z (receiptSum g es) 0) (part (λ t. t .day))) (h .day g lt);
         n = since (part (λ t. t .closes)) (part (λ t. t .brought (by N) (due es))) (h .n);
         c = since (part (λ t. t .closes)) (part (λ t. t .brought (by C) (due es))) (h .c);
@@ -120,27 +138,27 @@ module _ (es : List Entry) (b : Books) (h : Agrees es b) (e : Entry) (i : tells 
       }
 
 -- one command more
-agreeing : {es : List Entry} {b : Books} {c : Command} {d : Deed} → Reached b → Agrees es b → Step b c d → Agrees (entryOf c d ∷ es) (d .books)
-agreeing {es} {b} k h (refused {c} m l) = idle es b h _ refl
-agreeing {es} {b} k h (textOpens o a) = text-opened es b h
-agreeing {es} {b} k h (textCloses o) = text-closed es b h
-agreeing {es} {b} k h prints = idle es b h _ refl
-agreeing {es} {b} k h (opens {op} {till} {p} a) = receipt-opened es b h op till p
-agreeing {es} {b} k h (sells s l) = line-sold es b h s (k .receipt) (l .group) (reaching k (sells s l) .receipt)
-agreeing {es} {b} k h subtotals = idle es b h _ refl
-agreeing {es} {b} k h (pays p o l) = payment-made es b h p
-agreeing {es} {b} k h (closes o f) = receipt-closed es b h
-agreeing {es} {b} k h (cancels o) = receipt-cancelled es b h
-agreeing {es} {b} k h sums = idle es b h _ refl
-agreeing {es} {b} k h (clears o l) = day-closed es b h
-agreeing {es} {b} k h reports = idle es b h _ refl
-agreeing {es} {b} k h looks = idle es b h _ refl
-agreeing {es} {b} k h (puts n l m) = put-in es b h n
-agreeing {es} {b} k h (takes n l m) = taken-out es b h n l
-agreeing {es} {b} k h status = idle es b h _ refl
-agreeing {es} {b} k h rates = idle es b h _ refl
+agreeing : {es : List Entry} {b : Books} {c : Command} {d : Deed} → Reached b → priced c ≡ true → Agrees es b → Step b c d → Agrees (entryOf b c d ∷ es) (d .books)
+agreeing {es} {b} k i h (refused {c} m l) = idle es b h _ refl
+agreeing {es} {b} k i h (textOpens o a) = text-opened es b h _
+agreeing {es} {b} k i h (textCloses o) = text-closed es b h _
+agreeing {es} {b} k i h prints = idle es b h _ refl
+agreeing {es} {b} k i h (opens {op} {till} {p} a) = receipt-opened es b h _ op till p
+agreeing {es} {b} k i h (sells s l) = line-sold es b h _ s (k .receipt) (l .group) (reaching k (sells s l) .receipt)
+agreeing {es} {b} k i h subtotals = idle es b h _ refl
+agreeing {es} {b} k i h (pays p o f l) = payment-made es b h f p (left-fits k i (pays p o f l))
+agreeing {es} {b} k i h (closes o f) = receipt-closed es b h _
+agreeing {es} {b} k i h (cancels o) = receipt-cancelled es b h _
+agreeing {es} {b} k i h sums = idle es b h _ refl
+agreeing {es} {b} k i h (clears o l) = day-closed es b h _
+agreeing {es} {b} k i h reports = idle es b h _ refl
+agreeing {es} {b} k i h looks = idle es b h _ refl
+agreeing {es} {b} k i h (puts n l m) = put-in es b h _ n
+agreeing {es} {b} k i h (takes n l m) = taken-out es b h _ n l
+agreeing {es} {b} k i h status = idle es b h _ refl
+agreeing {es} {b} k i h rates = idle es b h _ refl
 
-fresh-agrees : Agrees [] freshBooks
+pub fresh-agrees : Agrees [] freshBooks
 fresh-agrees =
     record {
       cash = refl;
@@ -148,8 +166,11 @@ fresh-agrees =
       opened = refl;
       groups = λ g lt. zeros g;
       total = refl;
+      lines = refl;
       paid = refl;
       rest = refl;
+      tried = refl;
+      settled = refl;
       day = λ g lt. zeros g;
       n = refl;
       c = refl;
@@ -163,23 +184,31 @@ fresh-agrees =
       memory = refl;
     }
 
--- from any past in agreement
-pub agreement-stays : (p : Past) (cs : List Command) → Reached (p .books) → Agrees (p .entries) (p .books) → Agrees (carriedOn p cs .entries) (carriedOn p cs .books)
-agreement-stays p [] k h = h
-agreement-stays p (c ∷ cs) k h =
-    agreement-stays (record { entries = entryOf c (carriedOut (p .books) c) ∷ p .entries; books = carriedOut (p .books) c .books }) cs
-    (reached-stays (p .books) c k) (agreeing k h (taken (p .books) c))
+-- from any past in agreement, by any command whose amount is a PRICE
+pub agreement-stays : (es : List Entry) (b : Books) (c : Command) → Reached b → priced c ≡ true → Agrees es b → Agrees (entryOf b c (carriedOut b c) ∷ es) (carriedOut b c .books)
+agreement-stays es b c k i h = agreeing k i h (taken b c)
 
-module _ (cs : List Command) where
-  -- every figure, after every list of commands that a fresh device carries out
-  pub every-history-agrees : Agrees (historyOf cs .entries) (historyOf cs .books)
-  every-history-agrees = agreement-stays fresh cs fresh-reached fresh-agrees
+-- what is due is never cut off at zero
+pub never-overpaid : (es : List Entry) (b : Books) → Reached b → Agrees es b → paidSum es ≤ receiptTotal es
+never-overpaid es b k h = omega (arith, h .paid, h .total, k .receipt .not-overpaid)
 
-  -- demand 2
-  pub cash-follows : (takenOut (historyOf cs .entries) ≤ putIn (historyOf cs .entries)) × (historyOf cs .books .drawer .cash ≡ putIn (historyOf cs .entries) - takenOut (historyOf cs .entries))
-  cash-follows = (every-history-agrees .covered, every-history-agrees .cash)
+-- a record is its fields
+same-receipt : (r : Receipt) {groups : List ℕ} {total lines paid : ℕ} {tried settled : Bool} → r .groups ≡ groups → r .total ≡ total → r .lines ≡ lines → r .paid ≡ paid
+    → r .tried ≡ tried → r .settled ≡ settled → r ≡ record { groups = groups; total = total; lines = lines; paid = paid; tried = tried; settled = settled }
+same-receipt r e1 e2 e3 e4 e5 e6 = rw (sym e1, sym e2, sym e3, sym e4, sym e5, sym e6)
 
-  -- so that what is due is never cut off at zero
-  pub never-overpaid : paidSum (historyOf cs .entries) ≤ receiptTotal (historyOf cs .entries)
-  never-overpaid =
-      omega (arith, every-history-agrees .paid, every-history-agrees .total, every-history-reached cs .receipt .not-overpaid)
+same-books : (b : Books) {o : Opened} {r : Receipt} {day : List ℕ} {n c d e cash put taken all fiscal closings total : ℕ} → b .opened ≡ o → b .receipt ≡ r → b .day ≡ day
+    → b .registers .n ≡ n → b .registers .c ≡ c → b .registers .d ≡ d → b .registers .b ≡ e
+    → b .drawer .cash ≡ cash → b .drawer .put ≡ put → b .drawer .taken ≡ taken
+    → b .counters .all ≡ all → b .counters .fiscal ≡ fiscal → b .memory .closings ≡ closings → b .memory .total ≡ total
+    → b ≡ record { opened = o; receipt = r; day = day; registers = record { n = n; c = c; d = d; b = e }; drawer = record { cash = cash; put = put; taken = taken }; counters = record { all = all; fiscal = fiscal }; memory = record { closings = closings; total = total } }
+same-books b e1 e2 e3 e4 e5 e6 e7 e8 e9 e10 e11 e12 e13 e14 =
+    rw (sym e1, sym e2, sym e3, sym e4, sym e5, sym e6, sym e7, sym e8, sym e9, sym e10, sym e11, sym e12, sym e13, sym e14)
+
+-- so the entries alone tell the whole books
+pub agreed-is-told : (es : List Entry) (b : Books) → Reached b → Agrees es b → b ≡ toldBooks es
+agreed-is-told es b k h =
+    let groups = sym (eight-at (b .receipt .groups) (k .receipt .eight-groups)) ∙ same-eight (at (b .receipt .groups)) (λ g. receiptSum g es) (h .groups) in
+    let day = sym (eight-at (b .day) (k .eight-sums)) ∙ same-eight (at (b .day)) (λ g. daySum g es) (h .day) in
+    same-books b (h .opened) (same-receipt (b .receipt) groups (h .total) (h .lines) (h .paid) (h .tried) (h .settled)) day
+    (h .n) (h .c) (h .d) (h .b) (h .cash) (h .put) (h .taken) (h .all) (h .fiscal) (h .closings) (h .memory)

@@ -1,12 +1,12 @@
--- The books say what the history comes to.
+-- The books say what the history comes to: figure by figure, and all of them at once.
 use Prim.Native.Nat.{ℕ, _-_, _≤_, _<_}
 use mathlib.Core.Path.{_≡_}
 use mathlib.Core.List.{List}
 use Rattle.kinds.specs.declared.Mode.the-variants.{N, C, D, B}
-use Rattle.books.specs.Groups.{at}
+use Rattle.books.specs.Groups.{eight, at}
 use Rattle.books.specs.declared.Books.{Books}
 use Rattle.history.specs.Entries.{Entry}
-use Rattle.history.specs.History.{openReceipt, receiptSum, receiptTotal, paidSum, due, putIn, takenOut, serviceSum, inOf, outOf, register, allOpened, fiscalOpened, daySum, closings, memorySum}
+use Rattle.history.specs.History.{openReceipt, receiptSum, receiptTotal, linesSold, paidSum, due, paymentTried, paidInFull, putIn, takenOut, serviceSum, inOf, outOf, register, allOpened, fiscalOpened, daySum, closings, memorySum}
 
 pub record Agrees (es : List Entry) (books : Books) : Type 0 where
   -- "Cash equals all that was put in less all that was taken out, over the whole history."
@@ -16,8 +16,11 @@ pub record Agrees (es : List Entry) (books : Books) : Type 0 where
   -- the open receipt, its eight groups from 0
   pub groups : (g : ℕ) → g < 8 → at (books .receipt .groups) g ≡ receiptSum g es
   pub total : books .receipt .total ≡ receiptTotal es
+  pub lines : books .receipt .lines ≡ linesSold es
   pub paid : books .receipt .paid ≡ paidSum es
   pub rest : books .receipt .total - books .receipt .paid ≡ due es
+  pub tried : books .receipt .tried ≡ paymentTried es
+  pub settled : books .receipt .settled ≡ paidInFull es
   -- since the last closing
   pub day : (g : ℕ) → g < 8 → at (books .day) g ≡ daySum g es
   pub n : books .registers .n ≡ register N es
@@ -31,3 +34,23 @@ pub record Agrees (es : List Entry) (books : Books) : Type 0 where
   -- over all closings
   pub closings : books .memory .closings ≡ closings es
   pub memory : books .memory .total ≡ memorySum es
+
+-- the books as the entries alone tell them, no field left out
+abbrev pub toldBooks : List Entry → Books
+toldBooks es =
+    record {
+      opened = openReceipt es;
+      receipt = record {
+        groups = eight (λ g. receiptSum g es);
+        total = receiptTotal es;
+        lines = linesSold es;
+        paid = paidSum es;
+        tried = paymentTried es;
+        settled = paidInFull es;
+      };
+      day = eight (λ g. daySum g es);
+      registers = record { n = register N es; c = register C es; d = register D es; b = register B es };
+      drawer = record { cash = putIn es - takenOut es; put = serviceSum inOf es; taken = serviceSum outOf es };
+      counters = record { all = allOpened es; fiscal = fiscalOpened es };
+      memory = record { closings = closings es; total = memorySum es };
+    }
