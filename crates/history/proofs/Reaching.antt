@@ -131,6 +131,6 @@ fresh-reached = record { fits = fresh-is-sound; receipt = empty-receipted; eight
 pub reached-stays : (b : Books) (c : Command) → Reached b → Reached (carriedOut b c .books)
 reached-stays b c h = reaching h (taken b c)
 
--- so a device that was fresh never refuses for books that are not sound
+-- such books are never refused for not being sound
 pub every-command-judged : (b : Books) (c : Command) → Reached b → carriedOut b c ≡ deedOf b c
 every-command-judged b c h = sym (kept-done b (deedOf b c) (h .fits))

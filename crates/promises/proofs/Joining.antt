@@ -27,7 +27,7 @@ use Rattle.answers.specs.Status.{statusOf}
 use Rattle.answers.proofs.Shown.{field-shows}
 use Rattle.deeds.specs.Deeds.{carriedOut}
 use Rattle.deeds.specs.declared.Deed.{Deed}
-use Rattle.line.specs.Turns.{was, State, Turn, repeats, lastAnswer, onEvent, turn, session}
+use Rattle.line.specs.Turns.{was, State, Turn, Session, repeats, lastAnswer, onEvent, turn, session}
 use Rattle.device.specs.Carrying.{deedFor, answerTo, carry}
 use Rattle.device.specs.Device.{lentTurn}
 use Rattle.history.specs.Agrees.{Agrees}
@@ -37,7 +37,7 @@ use Rattle.history.proofs.Digits.{digits-fit}
 use Rattle.history.proofs.Histories.{fresh-agrees, agreement-stays}
 use Rattle.history.proofs.Laws.{seventy-shows-the-drawer}
 use Rattle.history.proofs.Reaching.{fresh-reached, reached-stays}
-use Rattle.promises.specs.Demand2.{LentByte, recorded, turnOn, turnsOf, deviceAfter, dataIn, withRead, withTurn, toldBy, freshDevice, entriesOf, booksAfter, cashIn}
+use Rattle.promises.specs.Demand2.{LentByte, recorded, turnOn, turnsOf, deviceAfter, allGiven, allCarried, dataIn, withRead, withTurn, toldBy, freshDevice, entriesOf, booksAfter, cashIn}
 use Rattle.promises.proofs.Verdicts.{Right, syntax, no-kind, is-read, parsed-right, right-priced}
 
 -- the data stands in an answer's frame where it is read from
@@ -147,9 +147,14 @@ device-after-one s [] a = refl
 device-after-one s (x ∷ more) a = device-after-one (turnOn s x .state) more a
 
 -- a recording is a history with 217 bytes lent each time
-pub session-after : (s : State Books) (bytes : List ℕ) → session carry s bytes .state ≡ deviceAfter s (recorded bytes)
-session-after s [] = refl
-session-after s (b ∷ bs) = session-after (turn carry s b .state) bs
+abbrev pub turnsTogether : State Books → List LentByte → Session Books
+turnsTogether s arrived = record { gives = allGiven (turnsOf s arrived); carried = allCarried (turnsOf s arrived); state = deviceAfter s arrived }
+
+pub session-turns : (s : State Books) (bytes : List ℕ) → session carry s bytes ≡ turnsTogether s (recorded bytes)
+session-turns s [] = refl
+session-turns s (b ∷ bs) =
+    let t : Turn Books = turn carry s b in
+    ap (λ (z : Session Books). record { gives = t .gives ++ z .gives; carried = t .carried ++ z .carried; state = z .state }) (session-turns (t .state) bs)
 
 -- 70: the field of an answer that shows the drawer is its cash
 cash-shown : (s : Shown) (day : List ℕ) (b : Books) → s ≡ shown.InDrawer → Reached b → cashIn (contentOf s day b) ≡ b .drawer .cash
@@ -172,4 +177,6 @@ module _ (s : State Books) (r : Reached (s .books)) (m : Message) (service : Ser
   pub cash-in-answer : (a : LentByte) → Shows (turnOn s a)
   cash-in-answer =
       every-turn Shows s (λ t none same one. let z : _≡_ {A = ℕ} 0 1 = cc in absurd (omega arith))
-      (λ next n one z. let same : n ≡ m = cc in shows next n (parsedOf (n .code) (n .content)) (ap (λ y. parsedOf (y .code) (y .content)) same ∙ is70) z)
+      (λ next n one z.
+      let same : m ≡ n = cc in
+      shows next n (parsedOf (n .code) (n .content)) (subst (λ (y : Message). parsedOf (y .code) (y .content) ≡ Read (Drawer service)) same is70) z)

@@ -1,7 +1,7 @@
 -- Demand 2: "Cash equals all that was put in less all that was taken out, over the whole history." What the statements speak of: any bytes that
 -- arrive at a fresh device, each with some buffer lent, and what its turns gave back.
 use Prim.Native.Nat.{ℕ, _-_}
-use mathlib.Core.List.{List, [], _∷_, map}
+use mathlib.Core.List.{List, [], _∷_, _++_, map}
 use lib.ListN.{length, take, drop}
 use Rattle.text.specs.Digits.{number}
 use Rattle.wire.specs.Frame.{Message}
@@ -34,6 +34,15 @@ turnsOf s (a ∷ more) = turnOn s a ∷ turnsOf (turnOn s a .state) more
 abbrev pub deviceAfter : State Books → List LentByte → State Books
 deviceAfter s [] = s
 deviceAfter s (a ∷ more) = deviceAfter (turnOn s a .state) more
+
+-- all that turns gave back, and the commands they carried out
+abbrev pub allGiven : List (Turn Books) → List ℕ
+allGiven [] = []
+allGiven (t ∷ ts) = t .gives ++ allGiven ts
+
+abbrev pub allCarried : List (Turn Books) → List Message
+allCarried [] = []
+allCarried (t ∷ ts) = t .carried ++ allCarried ts
 
 -- the data of an answer: 01h, LEN, SEQ and CMD stand before it; 04h, six status bytes, 05h, four of BCC and 03h behind it
 abbrev pub dataIn : List ℕ → List ℕ
