@@ -23,34 +23,16 @@ use Rattle.books.proofs.Eight.{at-eight}
 use Rattle.deeds.specs.Deeds.{cleared}
 use Rattle.history.specs.Agrees.{Agrees}
 use Rattle.history.specs.Entries.{Entry}
-use Rattle.history.specs.History.{receiptSum, receiptTotal, added, daySum, putIn, takenOut}
+use Rattle.history.specs.History.{receiptSum, receiptTotal, daySum}
 use Rattle.history.specs.Reached.{Receipted}
 use Rattle.history.proofs.Lists.{set-other, same-eight}
+use Rattle.history.proofs.Keeping.{kept, unchanged, kept-cash, kept-covered, less, kept-receipt, kept-registers, new-receipt}
 use Rattle.history.proofs.Soundness.{zeros}
 use Rattle.history.proofs.Steps.{taken}
 
 -- a command done, whatever its answer shows
 abbrev pub doneWith : Command → List ℕ → Entry
 doneWith c seen = record { command = c; number = 0; shown = seen }
-
--- nothing added, and nothing taken off
-pub kept : {x y : ℕ} → x ≡ y → x ≡ y + 0
-kept e = omega (arith, e)
-
-pub unchanged : {x y : ℕ} → x ≡ y → x ≡ y + 0 - 0
-unchanged e = omega (arith, e)
-
-pub kept-cash : (es : List Entry) {c : ℕ} → c ≡ putIn es - takenOut es → c ≡ putIn es + 0 + 0 - (takenOut es + 0)
-kept-cash es e = omega (arith, e)
-
-pub kept-covered : {p t : ℕ} → t ≤ p → t + 0 ≤ p + 0 + 0
-kept-covered h = omega (arith, h)
-
-pub kept-total : (es : List Entry) {x : ℕ} → x ≡ receiptTotal es → x ≡ sum (eight (λ g. receiptSum g es + 0 - 0))
-kept-total es e = e ∙ ap sum (same-eight (λ g. receiptSum g es) (λ g. receiptSum g es + 0 - 0) (λ g lt. unchanged refl))
-
-pub less : {a b c d : ℕ} → a ≡ b → c ≡ d → a - c ≡ b - d
-less e f = rw (e, f)
 
 -- the total is the history's, where the groups are
 total-of : (es : List Entry) (r : Receipt) → Receipted r → ((g : ℕ) → g < 8 → at (r .groups) g ≡ receiptSum g es) → r .total ≡ receiptTotal es
@@ -64,18 +46,9 @@ module _ (es : List Entry) (b : Books) (h : Agrees es b) (seen : List ℕ) where
         cash = kept-cash es (h .cash);
         covered = kept-covered (h .covered);
         opened = refl;
-        groups = λ g lt. unchanged (h .groups g lt);
-        total = kept-total es (h .total);
-        lines = kept (h .lines);
-        paid = kept (h .paid);
-        rest = less (kept-total es (h .total)) (kept (h .paid));
-        tried = h .tried;
-        settled = h .settled;
+        receipt = kept-receipt es _ (b .receipt) refl (h .receipt);
         day = λ g lt. kept (h .day g lt);
-        n = kept (h .n);
-        c = kept (h .c);
-        d = kept (h .d);
-        b = kept (h .b);
+        registers = kept-registers es _ (b .registers) refl (λ m. refl) (h .registers);
         put = kept (h .put);
         taken = kept (h .taken);
         all = ap (λ z. z + 1) (h .all);
@@ -91,18 +64,9 @@ module _ (es : List Entry) (b : Books) (h : Agrees es b) (seen : List ℕ) where
         cash = kept-cash es (h .cash);
         covered = kept-covered (h .covered);
         opened = refl;
-        groups = λ g lt. unchanged (h .groups g lt);
-        total = kept-total es (h .total);
-        lines = kept (h .lines);
-        paid = kept (h .paid);
-        rest = less (kept-total es (h .total)) (kept (h .paid));
-        tried = h .tried;
-        settled = h .settled;
+        receipt = kept-receipt es _ (b .receipt) refl (h .receipt);
         day = λ g lt. kept (h .day g lt);
-        n = kept (h .n);
-        c = kept (h .c);
-        d = kept (h .d);
-        b = kept (h .b);
+        registers = kept-registers es _ (b .registers) refl (λ m. refl) (h .registers);
         put = kept (h .put);
         taken = kept (h .taken);
         all = kept (h .all);
@@ -120,18 +84,9 @@ module _ (es : List Entry) (b : Books) (h : Agrees es b) (seen : List ℕ) where
         cash = kept-cash es (h .cash);
         covered = kept-covered (h .covered);
         opened = refl;
-        groups = λ g lt. zeros g;
-        total = refl;
-        lines = refl;
-        paid = refl;
-        rest = refl;
-        tried = refl;
-        settled = refl;
+        receipt = new-receipt es _ refl;
         day = λ g lt. kept (h .day g lt);
-        n = kept (h .n);
-        c = kept (h .c);
-        d = kept (h .d);
-        b = kept (h .b);
+        registers = kept-registers es _ (b .registers) refl (λ m. refl) (h .registers);
         put = kept (h .put);
         taken = kept (h .taken);
         all = ap (λ z. z + 1) (h .all);
@@ -147,18 +102,9 @@ module _ (es : List Entry) (b : Books) (h : Agrees es b) (seen : List ℕ) where
         cash = kept-cash es (h .cash);
         covered = kept-covered (h .covered);
         opened = refl;
-        groups = λ g lt. zeros g;
-        total = refl;
-        lines = refl;
-        paid = refl;
-        rest = refl;
-        tried = refl;
-        settled = refl;
-        day = λ g lt. at-eight (withReceiptOf b) g lt ∙ omega (arith, h .day g lt, h .groups g lt);
-        n = kept (h .n);
-        c = kept (h .c);
-        d = kept (h .d);
-        b = kept (h .b);
+        receipt = new-receipt es _ refl;
+        day = λ g lt. at-eight (withReceiptOf b) g lt ∙ omega (arith, h .day g lt, h .receipt .groups g lt);
+        registers = kept-registers es _ (b .registers) refl (λ m. refl) (h .registers);
         put = kept (h .put);
         taken = kept (h .taken);
         all = kept (h .all);
@@ -174,18 +120,9 @@ module _ (es : List Entry) (b : Books) (h : Agrees es b) (seen : List ℕ) where
         cash = kept-cash es (h .cash);
         covered = kept-covered (h .covered);
         opened = refl;
-        groups = λ g lt. zeros g;
-        total = refl;
-        lines = refl;
-        paid = refl;
-        rest = refl;
-        tried = refl;
-        settled = refl;
+        receipt = new-receipt es _ refl;
         day = λ g lt. kept (h .day g lt);
-        n = kept (h .n);
-        c = kept (h .c);
-        d = kept (h .d);
-        b = kept (h .b);
+        registers = kept-registers es _ (b .registers) refl (λ m. refl) (h .registers);
         put = kept (h .put);
         taken = kept (h .taken);
         all = kept (h .all);
@@ -201,18 +138,9 @@ module _ (es : List Entry) (b : Books) (h : Agrees es b) (seen : List ℕ) where
         cash = kept-cash es (h .cash);
         covered = kept-covered (h .covered);
         opened = h .opened;
-        groups = λ g lt. unchanged (h .groups g lt);
-        total = kept-total es (h .total);
-        lines = kept (h .lines);
-        paid = kept (h .paid);
-        rest = less (kept-total es (h .total)) (kept (h .paid));
-        tried = h .tried;
-        settled = h .settled;
+        receipt = kept-receipt es _ (b .receipt) refl (h .receipt);
         day = λ g lt. zeros g;
-        n = refl;
-        c = refl;
-        d = refl;
-        b = refl;
+        registers = record { n = refl; c = refl; d = refl; b = refl };
         put = refl;
         taken = refl;
         all = refl;
@@ -230,18 +158,9 @@ module _ (es : List Entry) (b : Books) (h : Agrees es b) (seen : List ℕ) where
         cash = omega (arith, h .cash, h .covered);
         covered = omega (arith, h .covered);
         opened = h .opened;
-        groups = λ g lt. unchanged (h .groups g lt);
-        total = kept-total es (h .total);
-        lines = kept (h .lines);
-        paid = kept (h .paid);
-        rest = less (kept-total es (h .total)) (kept (h .paid));
-        tried = h .tried;
-        settled = h .settled;
+        receipt = kept-receipt es _ (b .receipt) refl (h .receipt);
         day = λ g lt. kept (h .day g lt);
-        n = kept (h .n);
-        c = kept (h .c);
-        d = kept (h .d);
-        b = kept (h .b);
+        registers = kept-registers es _ (b .registers) refl (λ m. refl) (h .registers);
         put = ap (λ z. z + n) (h .put);
         taken = kept (h .taken);
         all = kept (h .all);
@@ -258,18 +177,9 @@ module _ (es : List Entry) (b : Books) (h : Agrees es b) (seen : List ℕ) where
         cash = omega (arith, h .cash, h .covered);
         covered = omega (arith, h .cash, h .covered);
         opened = h .opened;
-        groups = λ g lt. unchanged (h .groups g lt);
-        total = kept-total es (h .total);
-        lines = kept (h .lines);
-        paid = kept (h .paid);
-        rest = less (kept-total es (h .total)) (kept (h .paid));
-        tried = h .tried;
-        settled = h .settled;
+        receipt = kept-receipt es _ (b .receipt) refl (h .receipt);
         day = λ g lt. kept (h .day g lt);
-        n = kept (h .n);
-        c = kept (h .c);
-        d = kept (h .d);
-        b = kept (h .b);
+        registers = kept-registers es _ (b .registers) refl (λ m. refl) (h .registers);
         put = kept (h .put);
         taken = ap (λ z. z + n) (h .taken);
         all = kept (h .all);
@@ -293,12 +203,12 @@ module _ (es : List Entry) (b : Books) (h : Agrees es b) (seen : List ℕ) (s : 
 
   here : (g : ℕ) → g < 8 → s .group ≡ g → groupAfter (b .receipt) s ≡ receiptSum g (sale ∷ es)
   here g lt e =
-      ap (λ x. cond (s .minus) (x - productOf s) (x + finishedOf (productOf s) (s .adjust))) (ap (at (b .receipt .groups)) e ∙ h .groups g lt)
+      ap (λ x. cond (s .minus) (x - productOf s) (x + finishedOf (productOf s) (s .adjust))) (ap (at (b .receipt .groups)) e ∙ h .receipt .groups g lt)
       ∙ line-here (s .minus) (receiptSum g es) (productOf s) (finishedOf (productOf s) (s .adjust))
       ∙ sym (ap (sumIf g) (eq-eqb (s .group) g e))
 
   elsewhere : (g : ℕ) → g < 8 → (g ≡ s .group → ⊥) → at (b .receipt .groups) g ≡ receiptSum g (sale ∷ es)
-  elsewhere g lt z = unchanged (h .groups g lt) ∙ sym (ap (sumIf g) (ne-eqb (s .group) g (λ e. z (sym e))))
+  elsewhere g lt z = unchanged (h .receipt .groups g lt) ∙ sym (ap (sumIf g) (ne-eqb (s .group) g (λ e. z (sym e))))
 
   line-groups : length (b .receipt .groups) ≡ 8 → s .group < 8 → (g : ℕ) → g < 8 → at (withLine (b .receipt) s .groups) g ≡ receiptSum g (sale ∷ es)
   line-groups eight-long small =
@@ -314,18 +224,9 @@ module _ (es : List Entry) (b : Books) (h : Agrees es b) (seen : List ℕ) (s : 
         cash = kept-cash es (h .cash);
         covered = kept-covered (h .covered);
         opened = h .opened;
-        groups = groups;
-        total = total;
-        lines = ap (λ z. z + 1) (h .lines);
-        paid = kept (h .paid);
-        rest = less total (kept (h .paid));
-        tried = h .tried;
-        settled = h .settled;
+        receipt = record { groups = groups; total = total; lines = ap (λ z. z + 1) (h .receipt .lines); paid = kept (h .receipt .paid); rest = less total (kept (h .receipt .paid)); tried = h .receipt .tried; settled = h .receipt .settled };
         day = λ g lt. kept (h .day g lt);
-        n = kept (h .n);
-        c = kept (h .c);
-        d = kept (h .d);
-        b = kept (h .b);
+        registers = kept-registers es _ (b .registers) refl (λ m. refl) (h .registers);
         put = kept (h .put);
         taken = kept (h .taken);
         all = kept (h .all);

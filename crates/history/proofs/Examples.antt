@@ -6,7 +6,7 @@ use Rattle.text.specs.Digits.{digits, number}
 use Rattle.kinds.specs.declared.Adjust.the-variants.{Nothing, PercentLess}
 use Rattle.kinds.specs.declared.Command.{Command}
 use Rattle.kinds.specs.declared.Command.the-variants.{Open, Sell, Pay, Close, Cancel, Closing, Drawer}
-use Rattle.kinds.specs.declared.Mode.the-variants.{Cash}
+use Rattle.kinds.specs.declared.Mode.the-variants.{Cash, N}
 use Rattle.kinds.specs.declared.Service.the-variants.{In, Out}
 use Rattle.kinds.specs.declared.Tender.the-variants.{Amount}
 use Rattle.books.specs.Books.{freshBooks}
@@ -47,6 +47,13 @@ still-due = refl
 
 pub two-lines : linesSold (told sold) ≡ 2
 two-lines = refl
+
+-- group E is disabled, and N above the rest not permitted: refused with 3, and not counted
+pub no-third-line : linesSold (told (sold ++ Sell (record { group = 4; minus = false; price = 100; quantity = 1000; adjust = Nothing }) ∷ [])) ≡ 2
+no-third-line = refl
+
+pub not-tried : paymentTried (told (sold ++ Pay (record { mode = N; tender = Amount 2000 }) ∷ [])) ≡ false
+not-tried = refl
 
 -- 5.00 of the 12.67 is `D`, 20.00 is `R`
 pub not-in-full : (paymentTried (told (sold ++ Pay (record { mode = Cash; tender = Amount 500 }) ∷ [])) ≡ true)

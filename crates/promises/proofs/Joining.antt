@@ -9,7 +9,7 @@ use lib.ListN.{length, take, drop, length-append}
 use lib.Seq.{take-at}
 use Rattle.text.specs.Digits.{digits, number}
 use Rattle.text.proofs.Laws.{length-digits}
-use Rattle.wire.specs.Frame.{Message, answerOf, total, bcc, inner, counted, frame}
+use Rattle.wire.specs.Frame.{Message, answerOf, total, bcc, counted, frame}
 use Rattle.wire.specs.declared.Kind.the-variants as kind
 use Rattle.reader.specs.Reading.{Place, Event, nothing, brokenFrame, heard, read}
 use Rattle.kinds.specs.declared.Command.{Command}
@@ -18,7 +18,6 @@ use Rattle.kinds.specs.declared.Parsed.{Parsed}
 use Rattle.kinds.specs.declared.Parsed.the-variants.{Read, Syntax, Unknown}
 use Rattle.kinds.specs.declared.Service.{Service}
 use Rattle.command.specs.Commands.{parsedOf}
-use Rattle.books.specs.Books.{freshBooks}
 use Rattle.books.specs.declared.Books.{Books}
 use Rattle.books.specs.declared.Shown.{Shown}
 use Rattle.books.specs.declared.Shown.the-variants as shown
@@ -29,7 +28,6 @@ use Rattle.deeds.specs.Deeds.{carriedOut}
 use Rattle.deeds.specs.declared.Deed.{Deed}
 use Rattle.line.specs.Turns.{was, State, Turn, Session, repeats, lastAnswer, onEvent, turn, session}
 use Rattle.device.specs.Carrying.{deedFor, answerTo, carry}
-use Rattle.device.specs.Device.{lentTurn}
 use Rattle.history.specs.Agrees.{Agrees}
 use Rattle.history.specs.Entries.{Entry, entryOf}
 use Rattle.history.specs.Reached.{Reached}
