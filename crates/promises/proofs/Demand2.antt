@@ -24,7 +24,7 @@ use Rattle.history.specs.Digits.{InDigits, leftOf}
 use Rattle.history.specs.History.{receiptTotal, paidSum, putIn, takenOut}
 use Rattle.history.proofs.Digits.{digits-fit, rest-and-change-fit}
 use Rattle.history.proofs.Histories.{never-overpaid, agreed-is-told}
-use Rattle.line.specs.Turns.{State, Turn, Session}
+use Rattle.line.specs.Turns.{State, Session}
 use Rattle.device.specs.Carrying.{deedFor, answerTo, carry}
 use Rattle.device.specs.Recording.{recording}
 use Rattle.till.specs.Turns as turns
@@ -32,7 +32,7 @@ use Rattle.till.specs.History.{history, line, words, behind}
 use Rattle.till.specs.History as till
 use Rattle.till.specs.declared.Word.the-variants.{Waiting, Answered}
 use Rattle.till.proofs.Frames.{answer-heard}
-use Rattle.promises.specs.Demand2.{LentByte, recorded, turnOn, turnsOf, deviceAfter, allGiven, allCarried, dataIn, freshDevice, entriesOf, booksAfter, cashIn}
+use Rattle.promises.specs.Demand2.{LentByte, alwaysLent, turnBy, turnsOf, deviceAfter, allGiven, allCarried, dataIn, freshDevice, entriesOf, booksAfter, cashIn}
 use Rattle.promises.proofs.Joining.{deed-reached, any-history-reached, any-history-agrees, device-after-one, session-turns, cash-in-answer}
 use Rattle.promises.proofs.Verdicts.{Right, syntax, no-kind, is-read, parsed-right, right-priced}
 
@@ -71,7 +71,7 @@ both-ends-speak-alike arrived m e s sent tries place waiting =
 
 -- a recording is a history in which 217 bytes are lent each time: all it gives back and carries out is what the turns do
 pub a-recording-is-its-turns : (bytes : List ℕ)
-    → recording bytes ≡ record { gives = allGiven (turnsOf freshDevice (recorded bytes)); carried = allCarried (turnsOf freshDevice (recorded bytes)); state = deviceAfter freshDevice (recorded bytes) }
+    → recording bytes ≡ record { gives = allGiven (turnsOf freshDevice (alwaysLent bytes)); carried = allCarried (turnsOf freshDevice (alwaysLent bytes)); state = deviceAfter freshDevice (alwaysLent bytes) }
 a-recording-is-its-turns bytes = session-turns freshDevice bytes
 
 -- cash, for all bytes that arrive at a fresh device, whatever is lent with each
@@ -80,11 +80,10 @@ pub cash-is-put-in-less-taken-out : (arrived : List LentByte)
 cash-is-put-in-less-taken-out arrived = (any-history-agrees arrived .cash, any-history-agrees arrived .covered)
 
 -- and it can be seen: the Cash field of every answer to a 70 that is done, read back as a number
-pub cash-is-seen : (arrived : List LentByte) (a : LentByte) → let t = turnOn (deviceAfter freshDevice arrived) a in
+pub cash-is-seen : (arrived : List LentByte) (a : LentByte) → let t = turnBy (deviceAfter freshDevice arrived) a in
     (m : Message) (s : Service) → t .carried ≡ m ∷ [] → parsedOf (m .code) (m .content) ≡ Read (Drawer s) → t .number ≡ 0
     → cashIn (dataIn (t .gives)) ≡ putIn (entriesOf (arrived ++ a ∷ [])) - takenOut (entriesOf (arrived ++ a ∷ []))
 cash-is-seen arrived a m s one is70 zero =
-    let t : Turn Books = turnOn (deviceAfter freshDevice arrived) a in
     cash-in-answer (deviceAfter freshDevice arrived) (any-history-reached arrived) m s is70 a one zero
     ∙ ap (λ (z : State Books). z .books .drawer .cash) (sym (device-after-one freshDevice arrived a))
     ∙ any-history-agrees (arrived ++ a ∷ []) .cash
@@ -101,8 +100,8 @@ no-more-paid-than-due arrived = never-overpaid (entriesOf arrived) (booksAfter a
 pub the-entries-tell-the-books : (arrived : List LentByte) → booksAfter arrived ≡ toldBooks (entriesOf arrived)
 the-entries-tell-the-books arrived = agreed-is-told (entriesOf arrived) (booksAfter arrived) (any-history-reached arrived) (any-history-agrees arrived)
 
-pub and-those-of-a-recording : (bytes : List ℕ) → recording bytes .state .books ≡ toldBooks (entriesOf (recorded bytes))
-and-those-of-a-recording bytes = ap (λ (z : Session Books). z .state .books) (a-recording-is-its-turns bytes) ∙ the-entries-tell-the-books (recorded bytes)
+pub and-those-of-a-recording : (bytes : List ℕ) → recording bytes .state .books ≡ toldBooks (entriesOf (alwaysLent bytes))
+and-those-of-a-recording bytes = ap (λ (z : Session Books). z .state .books) (a-recording-is-its-turns bytes) ∙ the-entries-tell-the-books (alwaysLent bytes)
 
 -- "No field shown ever passes its digits."
 pub every-field-fits : (arrived : List LentByte) → InDigits (booksAfter arrived)

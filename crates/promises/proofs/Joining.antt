@@ -35,7 +35,7 @@ use Rattle.history.proofs.Digits.{digits-fit}
 use Rattle.history.proofs.Histories.{fresh-agrees, agreement-stays}
 use Rattle.history.proofs.Laws.{seventy-shows-the-drawer}
 use Rattle.history.proofs.Reaching.{fresh-reached, reached-stays}
-use Rattle.promises.specs.Demand2.{LentByte, recorded, turnOn, turnsOf, deviceAfter, allGiven, allCarried, dataIn, withRead, withTurn, toldBy, freshDevice, entriesOf, booksAfter, cashIn}
+use Rattle.promises.specs.Demand2.{LentByte, alwaysLent, turnBy, turnsOf, deviceAfter, allGiven, allCarried, dataIn, withRead, withTurn, toldBy, freshDevice, entriesOf, booksAfter, cashIn}
 use Rattle.promises.proofs.Verdicts.{Right, syntax, no-kind, is-read, parsed-right, right-priced}
 
 -- the data stands in an answer's frame where it is read from
@@ -88,7 +88,7 @@ module _ (s : State Books) (next : Place) (m : Message) where
 
 -- what holds of every turn that carries out nothing and leaves the books, and of every one that carries out its frame, holds of every turn
 every-turn : (P : Turn Books → Type 0) (s : State Books)
-    → ((t : Turn Books) → t .carried ≡ [] → t .state .books ≡ s .books → P t) → ((next : Place) (m : Message) → P (order s next m)) → (a : LentByte) → P (turnOn s a)
+    → ((t : Turn Books) → t .carried ≡ [] → t .state .books ≡ s .books → P t) → ((next : Place) (m : Message) → P (order s next m)) → (a : LentByte) → P (turnBy s a)
 every-turn P s quiet carries a = go (ltb (a .room) 217)
   where
     whole : (next : Place) (m : Message) (repeat : Bool) → P (cond repeat (again s next) (order s next m))
@@ -116,7 +116,7 @@ module _ (es : List Entry) (s : State Books) (r : Reached (s .books)) (h : Agree
   read-agrees next m Syntax syntax = h
   read-agrees next m Unknown no-kind = h
 
-  turn-stays : (a : LentByte) → Stays (turnOn s a)
+  turn-stays : (a : LentByte) → Stays (turnBy s a)
   turn-stays =
       every-turn Stays s quiet
       (λ next m.
@@ -131,7 +131,7 @@ history-stays : (es : List Entry) (s : State Books) (arrived : List LentByte) �
 history-stays es s [] r h = (r, h)
 history-stays es s (a ∷ more) r h =
     let now = turn-stays es s r h a in
-    history-stays (withTurn (turnOn s a) (turnOn s a .carried) es) (turnOn s a .state) more (now .0) (now .1)
+    history-stays (withTurn (turnBy s a) (turnBy s a .carried) es) (turnBy s a .state) more (now .0) (now .1)
 
 pub any-history-reached : (arrived : List LentByte) → Reached (booksAfter arrived)
 any-history-reached arrived = history-stays [] freshDevice arrived fresh-reached fresh-agrees .0
@@ -140,15 +140,15 @@ pub any-history-agrees : (arrived : List LentByte) → Agrees (entriesOf arrived
 any-history-agrees arrived = history-stays [] freshDevice arrived fresh-reached fresh-agrees .1
 
 -- one byte more
-pub device-after-one : (s : State Books) (arrived : List LentByte) (a : LentByte) → deviceAfter s (arrived ++ a ∷ []) ≡ turnOn (deviceAfter s arrived) a .state
+pub device-after-one : (s : State Books) (arrived : List LentByte) (a : LentByte) → deviceAfter s (arrived ++ a ∷ []) ≡ turnBy (deviceAfter s arrived) a .state
 device-after-one s [] a = refl
-device-after-one s (x ∷ more) a = device-after-one (turnOn s x .state) more a
+device-after-one s (x ∷ more) a = device-after-one (turnBy s x .state) more a
 
 -- a recording is a history with 217 bytes lent each time
 abbrev pub turnsTogether : State Books → List LentByte → Session Books
 turnsTogether s arrived = record { gives = allGiven (turnsOf s arrived); carried = allCarried (turnsOf s arrived); state = deviceAfter s arrived }
 
-pub session-turns : (s : State Books) (bytes : List ℕ) → session carry s bytes ≡ turnsTogether s (recorded bytes)
+pub session-turns : (s : State Books) (bytes : List ℕ) → session carry s bytes ≡ turnsTogether s (alwaysLent bytes)
 session-turns s [] = refl
 session-turns s (b ∷ bs) =
     let t : Turn Books = turn carry s b in
@@ -172,7 +172,7 @@ module _ (s : State Books) (r : Reached (s .books)) (m : Message) (service : Ser
       ap cashIn (data-read (n .seq) (n .code) (contentOf (d .shown) (s .books .day) (d .books)) (statusOf (d .number) (d .books)) refl)
       ∙ cash-shown (d .shown) (s .books .day) (d .books) drawer (deed-reached (s .books) x r)
 
-  pub cash-in-answer : (a : LentByte) → Shows (turnOn s a)
+  pub cash-in-answer : (a : LentByte) → Shows (turnBy s a)
   cash-in-answer =
       every-turn Shows s (λ t none same one. let z : _≡_ {A = ℕ} 0 1 = cc in absurd (omega arith))
       (λ next n one z.

@@ -15,12 +15,12 @@ abbrev sent : ℕ → ℕ → ℕ → List ℕ → List LentByte
 sent room seq code content = map (λ b. record { room = room; byte = b }) (frame Command (commandOf seq code content))
 
 -- 49 `Tab B12.67`
-abbrev line : ℕ → List LentByte
-line room = sent room 0x21 49 (0x09 ∷ 0x42 ∷ 0x31 ∷ 0x32 ∷ 0x2E ∷ 0x36 ∷ 0x37 ∷ [])
+abbrev sale : ℕ → List LentByte
+sale room = sent room 0x21 49 (0x09 ∷ 0x42 ∷ 0x31 ∷ 0x32 ∷ 0x2E ∷ 0x36 ∷ 0x37 ∷ [])
 
 -- 48 `1,0000,1`, then the line with 216 bytes lent, and twice with 217
 abbrev sold : List LentByte
-sold = sent 217 0x20 48 (0x31 ∷ 0x2C ∷ 0x30 ∷ 0x30 ∷ 0x30 ∷ 0x30 ∷ 0x2C ∷ 0x31 ∷ []) ++ line 216 ++ line 217 ++ line 217
+sold = sent 217 0x20 48 (0x31 ∷ 0x2C ∷ 0x30 ∷ 0x30 ∷ 0x30 ∷ 0x30 ∷ 0x2C ∷ 0x31 ∷ []) ++ sale 216 ++ sale 217 ++ sale 217
 
 -- 53 `Tab N99`, refused with 3, and `Tab P20`
 abbrev refused : List LentByte
@@ -37,7 +37,7 @@ abbrev asked : List LentByte
 asked = sent 217 0x25 70 []
 
 -- 17 bytes, none of them taken
-pub seven-each : map (λ t. t .number) (turnsOf freshDevice (line 216)) ≡ replicate 17 7
+pub seven-each : map (λ t. t .number) (turnsOf freshDevice (sale 216)) ≡ replicate 17 7
 seven-each = refl
 
 pub one-line : linesSold (entriesOf sold) ≡ 1

@@ -20,20 +20,20 @@ pub record LentByte : Type 0 where
   pub byte : ℕ
 
 -- a recording: the device "is always lent its 217 bytes"
-abbrev pub recorded : List ℕ → List LentByte
-recorded = map (λ b. record { room = 217; byte = b })
+abbrev pub alwaysLent : List ℕ → List LentByte
+alwaysLent = map (λ b. record { room = 217; byte = b })
 
-abbrev pub turnOn : State Books → LentByte → Turn Books
-turnOn s a = lentTurn (a .room) s (a .byte)
+abbrev pub turnBy : State Books → LentByte → Turn Books
+turnBy s a = lentTurn (a .room) s (a .byte)
 
 -- the turns of a device, byte for byte, and the device behind them
 abbrev pub turnsOf : State Books → List LentByte → List (Turn Books)
 turnsOf s [] = []
-turnsOf s (a ∷ more) = turnOn s a ∷ turnsOf (turnOn s a .state) more
+turnsOf s (a ∷ more) = turnBy s a ∷ turnsOf (turnBy s a .state) more
 
 abbrev pub deviceAfter : State Books → List LentByte → State Books
 deviceAfter s [] = s
-deviceAfter s (a ∷ more) = deviceAfter (turnOn s a .state) more
+deviceAfter s (a ∷ more) = deviceAfter (turnBy s a .state) more
 
 -- all that turns gave back, and the commands they carried out
 abbrev pub allGiven : List (Turn Books) → List ℕ
