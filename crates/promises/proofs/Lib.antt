@@ -4,4 +4,5 @@ pub mod Coded
 pub mod Rows
 pub mod Joining
 pub mod Demand2
+pub mod Telling
 pub mod Demand3
