@@ -1,1 +1,3 @@
+pub mod Reasons
+pub mod Effects
 pub mod Deeds

@@ -1,48 +1,362 @@
--- What the code promises of one event is the reply that the table speaks of, and its fields and arrays say the state that comes next: so the code's replies
--- over any history are those of `Demand1`.
-use mathlib.Core.Path.{_≡_, refl}
+-- The code's results, call by call, are the table's replies: by induction over any list of calls from fresh fields.
+use mathlib.Core.Path.{_≡_, refl, sym, ap, _∙_, subst}
 use mathlib.Core.Bool.{Bool, true, false, cond}
-use mathlib.Core.List.{List, []}
-use Prim.Native.Nat.{ℕ, _≤_, _<_}
+use mathlib.Core.List.{List, [], _∷_}
+use Prim.Native.Nat.{ℕ, _+_, _≤_, _<_}
+use native.Mathlib.Omega.{arith}
 use lib.Dec.{ltb}
-use lib.ListN.{length}
-use lib.Seq.{sets}
+use lib.ListN.{length, take}
+use lib.Seq.{sets, length-sets}
+use borrow.Author.Tests.{ltb-true, ltb-false, lt-ltb, le-ltb}
+use Rattle.wire.specs.Frame.{Message, commandOf, sendable}
+use Rattle.wire.specs.declared.Kind.the-variants.{Command, Answer}
+use Rattle.reader.specs.Reading.{Place, outside, inside, Event, nothing, brokenFrame, heard, Read, read}
+use Rattle.reader.specs.Fields.{placeOf, readerOf, keptIn}
+use Rattle.reader.proofs.Running.{bytesOf, kept-length}
+use Rattle.reader.proofs.Holding.{Short, short-few, short-read}
+use Rattle.books.specs.Books.{freshBooks}
 use Rattle.books.specs.declared.Books.{Books}
+use Rattle.answers.proofs.Shown.{shown-short}
+use Rattle.kinds.specs.declared.Parsed.{Parsed}
+use Rattle.kinds.specs.declared.Parsed.the-variants as parsed
+use Rattle.command.specs.Commands.{parsedOf}
+use Rattle.deeds.specs.declared.Deed.{Deed}
+use Rattle.history.specs.Reached.{Reached}
+use Rattle.history.proofs.Reaching.{fresh-reached}
 use Rattle.line.specs.Turns as line
+use Rattle.line.specs.Calls.{beforeOf, isRepeat, isQuiet, callOf}
+use Rattle.line.specs.declared.Call.{Call}
+use Rattle.line.specs.declared.Call.the-variants.{Quiet, Nak, Again, Order}
 use Rattle.line.specs.declared.Line.{Line}
-use Rattle.device.specs.Carrying.{carry}
+use Rattle.device.specs.Carrying.{deedFor, answerTo, carry}
 use Rattle.device.specs.Device as device
-use Rattle.device.proofs.Listening.{state-back}
+use Rattle.device.specs.Hearing.{PartHeard, partOf, oneMore, hearing, afterPart}
+use Rattle.device.proofs.Parts.{state-back}
+use Rattle.device.proofs.Working.{front-stands, again-few}
 use Rattle.till.specs.Turns as till
 use Rattle.till.specs.Fields as fields
 use Rattle.till.specs.Promises.{Bytes}
+use Rattle.till.specs.Words.{numberOf, countOf}
 use Rattle.till.specs.declared.Till.{Till}
+use Rattle.till.specs.declared.Word.the-variants.{TooShort, NotSent}
 use Rattle.till.proofs.Following.{fields-follow}
-use Rattle.promises.specs.Demand1.{Bench, atDevice, atTill, byDevice, reply}
-use Rattle.promises.specs.Coded.{DeviceSays, TillSays}
+use Rattle.till.proofs.Seeing.{failsBy}
+use Rattle.promises.specs.AtDevice.{FromDevice, tells, row-7}
+use Rattle.promises.specs.Demand1.{Bench, freshBench, atDevice, atTill, fromDevice, fromTill, ByTheTable, at-device}
+use Rattle.promises.specs.Ends.{ofDevice, ofTill, outcomeOf}
+use Rattle.promises.specs.Coded.{Machines, Fresh, benchOf, CodeCall, hear, happens, partAfter, turnAfter, handedOn, DeviceResult, givenIn, TillResult, isAsking, PartByTheTable, not-taken, no-byte, asking-byte, quiet-byte, CodeByTheTable, no-call, device-call, till-call}
+use Rattle.promises.proofs.Demand1.{by-the-device, by-the-till-end, deed-stays, event-stays, tries-stay}
+use Rattle.promises.proofs.DeviceRows.{again, ordered, short7}
+use Rattle.promises.proofs.TillRows.{triesOf}
+use Rattle.promises.proofs.Sizes.{Sized, turn-fits, answer-length}
 
--- at most 217 bytes are given back: `take_byte` promises it beside
-module _ (l : Line) (b : Books) (frame last : List ℕ) (s : till.State) (small : l .reader .count < 256) (frames : length frame ≡ 256) (lasts : length last ≡ 217) where
-  abbrev here : Bench
-  here = record { device = device.stateOf l b frame last; till = s }
+-- the device's fields and arrays, at the sizes that their types give, with books that a fresh device comes to
+record DeviceOk (l : Line) (b : Books) (frame last : List ℕ) : Type 0 where
+  frames : length frame ≡ 256
+  lasts : length last ≡ 217
+  short : Short Command (placeOf (l .reader) frame)
+  reached : Reached b
 
-  abbrev after : List ℕ → ℕ → Bool → device.After
-  after buffer byte short =
-      cond short (device.notTaken l b frame last buffer) (device.taken l frame last buffer (line.turn carry (device.stateOf l b frame last) byte))
+-- at most 217 bytes are given back: an answer, or the last one
+answer-few : (b : Books) (m : Message) → Reached b → length (carry b m .answer) ≤ 217
+answer-few b m r =
+    let d : Deed = deedFor b (parsedOf (m .code) (m .content)) in
+    let after : Reached (d .books) = deed-stays b (parsedOf (m .code) (m .content)) r in
+    let a : Message = answerTo b (m .seq) (m .code) d in
+    omega (arith, answer-length (m .seq) (m .code) (a .content) (a .status), shown-short (b .day) (d .books) (d .shown) (r .eight-sums) (after .eight-sums) (after .receipt .eight-groups))
 
-  pub the-device-says : (buffer : List ℕ) (byte : ℕ) → device.afterByte l b frame last buffer byte .given .count ≤ 217
-      → DeviceSays (device.afterByte l b frame last buffer byte) (reply here (atDevice buffer byte))
-  the-device-says buffer byte = go (ltb (length buffer) 217)
+module _ (l : Line) (b : Books) (frame last : List ℕ) (ok : DeviceOk l b frame last) where
+  abbrev here : line.State Books
+  here = device.stateOf l b frame last
+
+  few-given : (next : Place) (e : Event) → length (line.onEvent carry here next e .gives) ≤ 217
+  few-given next nothing = omega arith
+  few-given next brokenFrame = omega arith
+  few-given next (heard m) = go (line.repeats (here .before) m)
     where
-      go : (short : Bool) → after buffer byte short .given .count ≤ 217
-          → DeviceSays (after buffer byte short)
-          (byDevice here buffer (cond short (record { number = 7; gives = []; carried = []; state = device.stateOf l b frame last }) (line.turn carry (device.stateOf l b frame last) byte)))
-      go true few = record { number = refl; count = refl; buffer = refl; state = refl }
-      go false few = record { number = refl; count = refl; buffer = refl; state = state-back l b frame last lasts byte small frames few }
+      go : (repeat : Bool) → length (cond repeat (again here next) (ordered here next m (carry b m)) .gives) ≤ 217
+      go true = again-few (l .previous) last (ok .lasts)
+      go false = answer-few b m (ok .reached)
 
-module _ (t : Till) (frame answer : List ℕ) (d : line.State Books) (frames : length frame ≡ 256) (answers : length answer ≡ 256) (small : Bytes (t .slot)) where
-  pub the-till-end-says : (buffer : List ℕ) (h : till.Happening)
-      → let x = fields.turnOf t frame answer buffer h in
-      TillSays (fields.saidOf t x) (fields.framed frame (x .state .pending)) (fields.heldIn answer (x .state .pending)) (sets buffer 0 (x .puts))
-      (reply (record { device = d; till = fields.stateOf t frame answer }) (atTill buffer h))
-  the-till-end-says buffer h = record { number = refl; count = refl; bytes = refl; state = fields-follow t frame answer frames answers small buffer h }
+  goes-to : (next : Place) (e : Event) → line.onEvent carry here next e .state .place ≡ next
+  goes-to next nothing = refl
+  goes-to next brokenFrame = refl
+  goes-to next (heard m) = go (line.repeats (here .before) m)
+    where
+      go : (repeat : Bool) → cond repeat (again here next) (ordered here next m (carry b m)) .state .place ≡ next
+      go true = refl
+      go false = refl
+
+  last-kept : (answer : List ℕ) (ms : List Message) → length (device.lastAfter last ms answer) ≡ 217
+  last-kept answer [] = ok .lasts
+  last-kept answer (m ∷ ms) = length-sets last 0 answer ∙ ok .lasts
+
+  module _ (x : ℕ) (buffer : List ℕ) where
+    abbrev at : Read
+    at = read Command (here .place) x
+
+    -- the turn of an event, and the fields, arrays and buffer behind it
+    abbrev turned : Event → line.Turn Books
+    turned e = line.onEvent carry here (at .place) e
+
+    abbrev after : Event → device.After
+    after e = device.taken l frame last buffer (turned e)
+
+    module _ (e : Event) (is : at .event ≡ e) where
+      few : length (turned e .gives) ≤ 217
+      few = few-given (at .place) e
+
+      back : device.stateOf (after e .given .line) (after e .given .books) (after e .frame) (after e .last) ≡ turned e .state
+      back =
+          subst (λ z. device.stateOf (after z .given .line) (after z .given .books) (after z .frame) (after z .last) ≡ turned z .state) is
+          (state-back l b frame last (ok .lasts) x (short-few Command (here .place) (ok .short)) (ok .frames) (few-given (at .place) (at .event)))
+
+      short-now : Short Command (turned e .state .place)
+      short-now = subst (Short Command) (sym (goes-to (at .place) e)) (short-read Command (here .place) x (ok .short))
+
+      ok-after : DeviceOk (after e .given .line) (after e .given .books) (after e .frame) (after e .last)
+      ok-after =
+          record {
+            frames = kept-length frame (turned e .state .place) ∙ ok .frames;
+            lasts = last-kept (turned e .gives) (turned e .carried);
+            short = subst (Short Command) (sym (ap (λ (s : line.State Books). s .place) back)) short-now;
+            reached = event-stays here (at .place) e (ok .reached);
+          }
+
+      module _ (room : 217 ≤ length buffer) (t : till.State) where
+        abbrev bench : Bench
+        bench = record { device = here; till = t }
+
+        by-event : ByTheTable bench (atDevice buffer x) (fromDevice (ofDevice buffer (turned e)))
+        by-event =
+            subst (λ z. ByTheTable bench (atDevice buffer x) (fromDevice (ofDevice buffer (turned z)))) is
+            (subst (λ z. ByTheTable bench (atDevice buffer x) (fromDevice (ofDevice buffer (cond z (short7 here) (line.turn carry here x))))) (le-ltb (length buffer) 217 room)
+            (by-the-device bench (ok .reached .fits) buffer x))
+
+        result : (call : Call) → DeviceResult (partOf (after e) call 1) (ofDevice buffer (turned e))
+        result call = record { number = refl; count = refl; bytes = front-stands buffer (turned e .gives) (omega (arith, few, room)); buffer = refl; state = back }
+
+-- a part of bytes heard, by the table
+record HeardBy (t : till.State) (l : Line) (b : Books) (frame last buffer bytes : List ℕ) (p : PartHeard) : Type 0 where
+  reply : FromDevice
+  by : PartByTheTable buffer (record { device = device.stateOf l b frame last; till = t }) bytes (p .hearing .taken) reply
+  result : DeviceResult p reply
+  ok : DeviceOk (p .hearing .given .line) (p .hearing .given .books) (p .frame) (p .last)
+
+module _ (t : till.State) (buffer : List ℕ) (room : 217 ≤ length buffer) where
+  asked : (l : Line) (b : Books) (frame last : List ℕ) (ok : DeviceOk l b frame last) (x : ℕ) (bytes : List ℕ) (e : Event) (call : Call)
+      → read Command (device.stateOf l b frame last .place) x .event ≡ e → isAsking e ≡ true
+      → HeardBy t l b frame last buffer (x ∷ bytes) (partOf (after l b frame last ok x buffer e) call 1)
+  asked l b frame last ok x bytes e call is some =
+      record {
+        reply = ofDevice buffer (turned l b frame last ok x buffer e);
+        by = asking-byte (subst (λ z. isAsking z ≡ true) (sym is) some) (by-event l b frame last ok x buffer e is room t);
+        result = result l b frame last ok x buffer e is room t call;
+        ok = ok-after l b frame last ok x buffer e is;
+      }
+
+  parts : (l : Line) (b : Books) (frame last : List ℕ) → DeviceOk l b frame last → (bytes : List ℕ)
+      → HeardBy t l b frame last buffer bytes (hearing l b frame last buffer bytes)
+  parts l b frame last ok [] =
+      record {
+        reply = tells 0 [] buffer (device.stateOf l b frame last);
+        by = no-byte room;
+        result = record { number = refl; count = refl; bytes = refl; buffer = refl; state = refl };
+        ok = ok;
+      }
+  parts l b frame last ok (x ∷ xs) = go (λ l2 b2 frame2 last2 ok2. parts l2 b2 frame2 last2 ok2 xs) (at l b frame last ok x buffer .event) refl
+    where
+      Rest : Type 0
+      Rest = (l2 : Line) (b2 : Books) (frame2 last2 : List ℕ) → DeviceOk l2 b2 frame2 last2 → HeardBy t l2 b2 frame2 last2 buffer xs (hearing l2 b2 frame2 last2 buffer xs)
+
+      a : Event → device.After
+      a e = after l b frame last ok x buffer e
+
+      go : Rest → (e : Event) → at l b frame last ok x buffer .event ≡ e
+          → HeardBy t l b frame last buffer (x ∷ xs)
+          (cond (isQuiet (callOf (l .previous) e))
+          (oneMore (hearing (a e .given .line) (a e .given .books) (a e .frame) (a e .last) (a e .buffer) xs)) (partOf (a e) (callOf (l .previous) e) 1))
+      go heard-on nothing is =
+          let rest = heard-on (a nothing .given .line) (a nothing .given .books) (a nothing .frame) (a nothing .last) (ok-after l b frame last ok x buffer nothing is) in
+          record {
+            reply = rest .reply;
+            by =
+                quiet-byte (ap isAsking is) (by-event l b frame last ok x buffer nothing is room t) refl
+                (subst (λ s. PartByTheTable buffer (record { device = s; till = t }) xs
+                (hearing (a nothing .given .line) (a nothing .given .books) (a nothing .frame) (a nothing .last) buffer xs .hearing .taken) (rest .reply))
+                (back l b frame last ok x buffer nothing is) (rest .by));
+            result = record { number = rest .result .number; count = rest .result .count; bytes = rest .result .bytes; buffer = rest .result .buffer; state = rest .result .state };
+            ok = rest .ok;
+          }
+      go heard-on brokenFrame is = asked l b frame last ok x xs brokenFrame Nak is refl
+      go heard-on (heard m) is = by-repeat (isRepeat (l .previous) (m .seq) (m .code))
+        where
+          by-repeat : (repeat : Bool)
+              → HeardBy t l b frame last buffer (x ∷ xs)
+              (cond (isQuiet (cond repeat Again (Order (m .seq) (m .code) (length (m .content)))))
+              (oneMore (hearing (a (heard m) .given .line) (a (heard m) .given .books) (a (heard m) .frame) (a (heard m) .last) (a (heard m) .buffer) xs))
+              (partOf (a (heard m)) (cond repeat Again (Order (m .seq) (m .code) (length (m .content)))) 1))
+          by-repeat true = asked l b frame last ok x xs (heard m) Again is refl
+          by-repeat false = asked l b frame last ok x xs (heard m) (Order (m .seq) (m .code) (length (m .content))) is refl
+
+-- one call of the device
+device-called : (t : till.State) (l : Line) (b : Books) (frame last : List ℕ) → DeviceOk l b frame last → (buffer bytes : List ℕ)
+    → HeardBy t l b frame last buffer bytes (afterPart l b frame last buffer bytes)
+device-called t l b frame last ok buffer bytes = go (ltb (length buffer) 217) refl
+  where
+    s : Bench
+    s = record { device = device.stateOf l b frame last; till = t }
+
+    go : (short : Bool) → ltb (length buffer) 217 ≡ short
+        → HeardBy t l b frame last buffer bytes (cond short (partOf (device.notTaken l b frame last buffer) Quiet 0) (hearing l b frame last buffer bytes))
+    go true e =
+        record {
+          reply = tells 7 [] buffer (device.stateOf l b frame last);
+          by = not-taken (ltb-true (length buffer) 217 e) (λ byte. at-device (row-7 (ltb-true (length buffer) 217 e)));
+          result = record { number = refl; count = refl; bytes = refl; buffer = refl; state = refl };
+          ok = ok;
+        }
+    go false e = parts t buffer (ltb-false (length buffer) 217 e) l b frame last ok bytes
+
+-- the till end's fields and arrays
+record TillOk (t : Till) (frame answer : List ℕ) : Type 0 where
+  small : Bytes (t .slot)
+  frames : length frame ≡ 256
+  answers : length answer ≡ 256
+  sized : Sized (fields.stateOf t frame answer .pending)
+  tries : triesOf (fields.stateOf t frame answer .pending) ≤ 5
+
+-- a word counts the bytes that are put
+failed-count : (next seq code : ℕ) (bytes : List ℕ) (tries : ℕ) → givenIn (till.failsTry next seq code bytes tries .word) ≡ length (till.failsTry next seq code bytes tries .puts)
+failed-count next seq code bytes tries = go (ltb tries 5)
+  where
+    go : (early : Bool) → givenIn (failsBy next seq code bytes tries early .word) ≡ length (failsBy next seq code bytes tries early .puts)
+    go true = refl
+    go false = refl
+
+meant-count : (next seq code : ℕ) (bytes : List ℕ) (tries : ℕ) (x : till.Meaning)
+    → givenIn (till.onMeaning next seq code bytes tries x .word) ≡ length (till.onMeaning next seq code bytes tries x .puts)
+meant-count next seq code bytes tries till.failed = failed-count next seq code bytes tries
+meant-count next seq code bytes tries (till.goesOn q) = refl
+meant-count next seq code bytes tries (till.answers m) = refl
+
+taken-count : (next : ℕ) (p : till.Pending) (h : till.Happening)
+    → givenIn (till.takes (record { next = next; pending = p }) h .word) ≡ length (till.takes (record { next = next; pending = p }) h .puts)
+taken-count next till.idle (till.command code content) = go (sendable Command (commandOf next code content))
+  where
+    go : (can : Bool)
+        → givenIn (cond can (till.sent next (commandOf next code content)) (till.stays NotSent (record { next = next; pending = till.idle })) .word)
+        ≡ length (cond can (till.sent next (commandOf next code content)) (till.stays NotSent (record { next = next; pending = till.idle })) .puts)
+    go true = refl
+    go false = refl
+taken-count next till.idle (till.byte b) = refl
+taken-count next till.idle till.timeout = refl
+taken-count next (till.waits seq code bytes tries place) (till.command other content) = refl
+taken-count next (till.waits seq code bytes tries place) (till.byte b) = meant-count next seq code bytes tries (till.byteMeans seq code place b)
+taken-count next (till.waits seq code bytes tries place) till.timeout = failed-count next seq code bytes tries
+
+word-counts : (s : till.State) (lent : ℕ) (h : till.Happening) → givenIn (till.hears lent s h .word) ≡ length (till.hears lent s h .puts)
+word-counts s lent h = go (ltb lent 210)
+  where
+    go : (short : Bool) → givenIn (cond short (till.stays TooShort s) (till.takes s h) .word) ≡ length (cond short (till.stays TooShort s) (till.takes s h) .puts)
+    go true = refl
+    go false = taken-count (s .next) (s .pending) h
+
+-- fields that say what fits are bytes
+bytes-of : (s : till.State) → Sized (s .pending) → Bytes (fields.tillOf s .slot)
+bytes-of s z = go (s .pending) z
+  where
+    go : (p : till.Pending) → Sized p → Bytes (fields.tillOf (record { next = s .next; pending = p }) .slot)
+    go till.idle z = tt
+    go (till.waits seq code bytes tries outside) z = (omega (arith, z .0), omega arith)
+    go (till.waits seq code bytes tries (inside sum read)) z = (omega (arith, z .0), short-few Answer (inside sum read) (z .1))
+
+framed-length : (array : List ℕ) (p : till.Pending) → length (fields.framed array p) ≡ length array
+framed-length array till.idle = refl
+framed-length array (till.waits seq code bytes tries place) = length-sets array 0 bytes
+
+read-length : (array : List ℕ) (p : till.Pending) → length (fields.heldIn array p) ≡ length array
+read-length array till.idle = refl
+read-length array (till.waits seq code bytes tries place) = kept-length array place
+
+-- one call of the till end
+module _ (f : Machines) (ok : TillOk (f .till) (f .sent) (f .answer)) (buffer : List ℕ) (h : till.Happening) where
+  abbrev state : till.State
+  state = fields.stateOf (f .till) (f .sent) (f .answer)
+
+  abbrev turn : till.Turn
+  turn = turnAfter f buffer h
+
+  follows : fields.stateOf (fields.saidOf (f .till) turn .till) (fields.framed (f .sent) (turn .state .pending)) (fields.heldIn (f .answer) (turn .state .pending)) ≡ turn .state
+  follows = fields-follow (f .till) (f .sent) (f .answer) (ok .frames) (ok .answers) (ok .small) buffer h
+
+  till-result : TillResult f buffer h (ofTill buffer turn)
+  till-result =
+      record {
+        word = refl;
+        number = refl;
+        count = refl;
+        bytes =
+            ap (λ n. take n (sets buffer 0 (turn .puts))) (word-counts state (length buffer) h)
+            ∙ front-stands buffer (turn .puts) (turn-fits state (ok .sized) buffer h .puts);
+        buffer = refl;
+        state = follows;
+      }
+
+  till-after : TillOk (fields.saidOf (f .till) turn .till) (fields.framed (f .sent) (turn .state .pending)) (fields.heldIn (f .answer) (turn .state .pending))
+  till-after =
+      let sized : Sized (turn .state .pending) = turn-fits state (ok .sized) buffer h .leaves in
+      record {
+        small = go (fields.refused (numberOf (turn .word))) sized;
+        frames = framed-length (f .sent) (turn .state .pending) ∙ ok .frames;
+        answers = read-length (f .answer) (turn .state .pending) ∙ ok .answers;
+        sized = subst (λ (s : till.State). Sized (s .pending)) (sym follows) sized;
+        tries = subst (λ (s : till.State). triesOf (s .pending) ≤ 5) (sym follows) (tries-stay (length buffer) state h (ok .tries));
+      }
+    where
+      go : (refused : Bool) → Sized (turn .state .pending) → Bytes (cond refused (f .till) (fields.tillOf (turn .state)) .slot)
+      go true z = ok .small
+      go false z = bytes-of (turn .state) z
+
+-- any calls
+record Ok (f : Machines) : Type 0 where
+  device : DeviceOk (f .line) (f .books) (f .frame) (f .last)
+  till : TillOk (f .till) (f .sent) (f .answer)
+
+all-calls : (f : Machines) → Ok f → (calls : List CodeCall) → CodeByTheTable (benchOf f) f calls
+all-calls f ok [] = no-call
+all-calls f ok (hear buffer bytes ∷ calls) =
+    let p = device-called (benchOf f .till) (f .line) (f .books) (f .frame) (f .last) (ok .device) buffer bytes in
+    device-call (p .reply) (p .by) (p .result)
+    (subst (λ s. CodeByTheTable (record { device = s; till = benchOf f .till }) (handedOn f (hear buffer bytes)) calls) (p .result .state)
+    (all-calls (handedOn f (hear buffer bytes)) (record { device = p .ok; till = ok .till }) calls))
+all-calls f ok (happens buffer h ∷ calls) =
+    till-call (ofTill buffer (turnAfter f buffer h)) (by-the-till-end (benchOf f) (ok .till .tries) buffer h) (till-result f (ok .till) buffer h)
+    (subst (λ s. CodeByTheTable (record { device = benchOf f .device; till = s }) (handedOn f (happens buffer h)) calls) (follows f (ok .till) buffer h)
+    (all-calls (handedOn f (happens buffer h)) (record { device = ok .device; till = till-after f (ok .till) buffer h }) calls))
+
+-- the theorem
+pub the-code-replies-by-the-table : (f : Machines) → Fresh f → (calls : List CodeCall) → CodeByTheTable freshBench f calls
+the-code-replies-by-the-table f fresh calls =
+    subst (λ s. CodeByTheTable s f calls) says-fresh (all-calls f fresh-ok calls)
+  where
+    says-fresh : benchOf f ≡ freshBench
+    says-fresh = rw (fresh .line, fresh .books, fresh .till)
+
+    fresh-ok : Ok f
+    fresh-ok =
+        record {
+          device = record {
+            frames = fresh .frame;
+            lasts = fresh .last;
+            short = rw (fresh .line) tt;
+            reached = rw (fresh .books) fresh-reached;
+          };
+          till = record {
+            small = rw (fresh .till) tt;
+            frames = fresh .sent;
+            answers = fresh .answer;
+            sized = rw (fresh .till) tt;
+            tries = rw (fresh .till) (omega arith);
+          };
+        }

@@ -1,271 +1,161 @@
--- Demand 1: every reply of any history, at both ends, is by the table.
+-- Demand 1: every event in every history of fresh ends has a reply by the table, and a reply by the table is that reply.
 use mathlib.Core.Path.{_≡_, refl, sym, ap, _∙_, subst}
-use mathlib.Core.Bool.{Bool, true, false, cond, not, _&&_, false≢true}
+use mathlib.Core.Bool.{Bool, true, false, cond}
 use mathlib.Core.List.{List, [], _∷_}
-use Prim.Native.Nat.{ℕ, _≤_, _<_}
+use Prim.Native.Nat.{ℕ, _+_, _≤_, _<_}
 use native.Mathlib.Omega.{arith}
-use lib.Dec.{eqb, leb, ltb}
+use lib.Dec.{ltb}
 use lib.ListN.{length}
-use borrow.Author.Tests.{ltb-true, ltb-false, le-leb, lt-leb, le-ltb}
-use Rattle.wire.specs.Frame.{Message, commandOf, frame, sendable}
-use Rattle.wire.specs.declared.Kind.the-variants.{Command, Answer}
+use borrow.Author.Tests.{ltb-true}
+use Rattle.wire.specs.Frame.{Message, commandOf, sendable}
+use Rattle.wire.specs.declared.Kind.the-variants.{Command}
 use Rattle.reader.specs.Reading.{Place, Event, nothing, brokenFrame, heard, read}
-use Rattle.kinds.specs.declared.Parsed.{Parsed}
+use Rattle.books.specs.Sound.{sound}
 use Rattle.books.specs.declared.Books.{Books}
-use Rattle.books.specs.declared.Shown.{Shown}
-use Rattle.answers.specs.Contents.{contentOf}
+use Rattle.kinds.specs.declared.Parsed.{Parsed}
+use Rattle.kinds.specs.declared.Parsed.the-variants.{Read, Syntax, Unknown}
 use Rattle.command.specs.Commands.{parsedOf}
-use Rattle.deeds.specs.declared.Deed.{Deed}
+use Rattle.history.specs.Reached.{Reached}
+use Rattle.history.proofs.Reaching.{fresh-reached, reached-stays}
 use Rattle.line.specs.Turns as line
-use Rattle.device.specs.Carrying.{carry, answerTo}
+use Rattle.device.specs.Carrying.{deedFor, carry}
+use Rattle.device.specs.Device.{lentTurn}
 use Rattle.till.specs.Turns as till
-use Rattle.till.specs.Words.{numberOf, countOf}
-use Rattle.till.specs.History as history
-use Rattle.till.specs.declared.Word.{Word}
-use Rattle.till.specs.declared.Word.the-variants.{Idle, Waiting, SendAgain, Answered, Unfinished, TooShort, NotSent}
+use Rattle.till.specs.declared.Word.the-variants.{Unfinished, TooShort, NotSent}
 use Rattle.till.proofs.Seeing.{failsBy}
-use Rattle.till.proofs.Tries.{unfinished-is-five}
-use Rattle.promises.proofs.Verdicts.{did, refused3, refused4, Judged, unread, unknown, asked, judge}
-use Rattle.promises.specs.Table.{Row, rowOf}
-use Rattle.promises.specs.Demand1.{Bench, freshBench, Comes, atDevice, atTill, byDevice, byTill, reply, tillPart, deedOn, meant, returned, answered, behindFrame, deviceMeans, deviceGives, deviceKeeps, tillMeans, tillGives, tillKeeps, unsendable, lastFails, ByTheTable, allByTheTable, benchAfter}
+use Rattle.promises.specs.AtDevice.{FromDevice, ByDevice}
+use Rattle.promises.specs.AtTill.{replies, fails, noneWaits, row-9}
+use Rattle.promises.specs.Demand1.{Bench, freshBench, Comes, atDevice, atTill, Outcome, fromDevice, fromTill, benchAfter, ByTheTable, at-device, at-till, AllByTheTable, no-more, then}
+use Rattle.promises.specs.Ends.{ofDevice, ofTill, outcomeOf, outcomesOf}
+use Rattle.promises.proofs.DeviceRows as device-rows
+use Rattle.promises.proofs.TillRows as till-rows
 
--- what the row of a turn says of it
-record DeviceRow (s : line.State Books) (e : Event) (next : Place) (t : line.Turn Books) (row : Row) : Type 0 where
-  means : deviceMeans (row .means) s e
-  gives : deviceGives (row .returns) s e (t .gives)
-  keeps : deviceKeeps (row .stays) s e next (t .gives) (t .state)
-  numbered : t .number < 10
-  row-is : row .number ≡ t .number
-  long : false ≡ eqb (t .number) 7
+-- uniqueness, from any state: the rows as a function
+abbrev tableReply : Bench → Comes → Outcome
+tableReply s (atDevice buffer byte) = fromDevice (ofDevice buffer (device-rows.tableTurn (s .device) (length buffer) byte))
+tableReply s (atTill buffer h) = fromTill (ofTill buffer (till.hears (length buffer) (s .till) h))
 
-module _ (s : line.State Books) (next : Place) (m : Message) where
-  abbrev repeatTurn : line.Turn Books
-  repeatTurn =
-      record { number = 6; gives = line.lastAnswer (s .before); carried = []; state = record { place = next; before = s .before; books = s .books } }
+only-this : (s : Bench) (c : Comes) (r : Outcome) → ByTheTable s c r → r ≡ tableReply s c
+only-this s c r (at-device {buffer = buffer} {byte = byte} {r = x} b) = ap fromDevice (device-rows.only-row (s .device) buffer byte x b)
+only-this s c r (at-till {buffer = buffer} {h = h} {r = x} b) = ap fromTill (till-rows.only-row (s .till) buffer h x b)
 
-  abbrev orderTurn : Deed → line.Turn Books
-  orderTurn d =
-      record {
-        number = d .number;
-        gives = frame Answer (answerTo (s .books) (m .seq) (m .code) d);
-        carried = m ∷ [];
-        state = record { place = next; before = line.was (m .seq) (m .code) (frame Answer (answerTo (s .books) (m .seq) (m .code) d)); books = d .books };
-      }
+pub the-reply-is-the-only-one : (s : Bench) (c : Comes) (r other : Outcome) → ByTheTable s c r → ByTheTable s c other → r ≡ other
+the-reply-is-the-only-one s c r other b d = only-this s c r b ∙ sym (only-this s c other d)
 
-  abbrev Row-of : Deed → Type 0
-  Row-of d = deedOn s m ≡ d → line.repeats (s .before) m ≡ false → DeviceRow s (heard m) next (orderTurn d) (rowOf (d .number))
+abbrev tableReplies : Bench → List Comes → List Outcome
+tableReplies s [] = []
+tableReplies s (c ∷ cs) = tableReply s c ∷ tableReplies (benchAfter s (tableReply s c)) cs
 
-  ordered : (b : Books) (x : Shown) → Row-of (record { number = 0; books = b; shown = x })
-  ordered b x e f =
-      record {
-        means = (f, ap (λ (d : Deed). d .number) e);
-        gives = sym (ap (λ (d : Deed). answered m (contentOf (d .shown) (s .books .day) (d .books)) 0x80 0x80 (d .books)) e);
-        keeps = sym (ap (λ (d : Deed). behindFrame next m (orderTurn (record { number = 0; books = b; shown = x }) .gives) (d .books)) e);
-        numbered = omega arith;
-        row-is = refl;
-        long = refl;
-      }
+only-these : (s : Bench) (cs : List Comes) (rs : List Outcome) → AllByTheTable s cs rs → rs ≡ tableReplies s cs
+only-these s cs rs no-more = refl
+only-these s cs rs (then {c = c} {r = r} {cs = later} {rs = rest} b all) =
+    let same : r ≡ tableReply s c = only-this s c r b in
+    ap (λ z. r ∷ z) (only-these (benchAfter s r) later rest all) ∙ ap (λ z. z ∷ tableReplies (benchAfter s z) later) same
 
-  order : (p : Parsed) (d : Deed) → Judged (s .books) p d → parsedOf (m .code) (m .content) ≡ p → Row-of d
-  order p d unread r e f = record { means = (f, r); gives = refl; keeps = refl; numbered = omega arith; row-is = refl; long = refl }
-  order p d unknown r e f = record { means = (f, r); gives = refl; keeps = refl; numbered = omega arith; row-is = refl; long = refl }
-  order p d (asked refused3) r e f = record { means = (f, ap (λ (x : Deed). x .number) e); gives = refl; keeps = refl; numbered = omega arith; row-is = refl; long = refl }
-  order p d (asked refused4) r e f = record { means = (f, ap (λ (x : Deed). x .number) e); gives = refl; keeps = refl; numbered = omega arith; row-is = refl; long = refl }
-  order p d (asked (did z)) r e f =
-      subst Row-of (sym (ap (λ n. record { number = n; books = d .books; shown = d .shown }) z)) (ordered (d .books) (d .shown)) e f
+-- and so of a whole history: exactly one list of replies is by the table
+pub the-replies-are-the-only-ones : (s : Bench) (cs : List Comes) (rs others : List Outcome) → AllByTheTable s cs rs → AllByTheTable s cs others → rs ≡ others
+the-replies-are-the-only-ones s cs rs others a b = only-these s cs rs a ∙ sym (only-these s cs others b)
 
-  whole-row : (repeat : Bool) → line.repeats (s .before) m ≡ repeat
-      → DeviceRow s (heard m) next (cond repeat repeatTurn (orderTurn (deedOn s m))) (rowOf (cond repeat repeatTurn (orderTurn (deedOn s m)) .number))
-  whole-row true f = record { means = f; gives = refl; keeps = refl; numbered = omega arith; row-is = refl; long = refl }
-  whole-row false f = order (parsedOf (m .code) (m .content)) (deedOn s m) (judge (s .books) (m .code) (m .content)) refl refl f
+-- existence: at the device where its books are sound, at the till end where at most five tries were made
+pub by-the-device : (s : Bench) → sound (s .device .books) ≡ true → (buffer : List ℕ) (byte : ℕ) → ByTheTable s (atDevice buffer byte) (outcomeOf s (atDevice buffer byte))
+by-the-device s e buffer byte =
+    at-device
+    (subst (λ t. ByDevice (s .device) buffer byte (ofDevice buffer t)) (sym (device-rows.as-the-table (s .device) e (length buffer) byte))
+    (device-rows.has-its-row (s .device) buffer byte))
 
-device-row : (s : line.State Books) (next : Place) (e : Event)
-    → DeviceRow s e next (line.onEvent carry s next e) (rowOf (line.onEvent carry s next e .number))
-device-row s next nothing = record { means = tt; gives = refl; keeps = refl; numbered = omega arith; row-is = refl; long = refl }
-device-row s next brokenFrame = record { means = tt; gives = refl; keeps = refl; numbered = omega arith; row-is = refl; long = refl }
-device-row s next (heard m) = whole-row s next m (line.repeats (s .before) m) refl
+pub by-the-till-end : (s : Bench) → till-rows.triesOf (s .till .pending) ≤ 5 → (buffer : List ℕ) (h : till.Happening)
+    → ByTheTable s (atTill buffer h) (outcomeOf s (atTill buffer h))
+by-the-till-end s few buffer h = at-till (till-rows.has-its-row (s .till) buffer h few)
 
-at-device : (s : Bench) (buffer : List ℕ) (byte : ℕ) → ByTheTable s (atDevice buffer byte) (reply s (atDevice buffer byte))
-at-device s buffer byte = go (ltb (length buffer) 217) refl
+-- which every event leaves: the books are such as a fresh device comes to
+pub deed-stays : (b : Books) (p : Parsed) → Reached b → Reached (deedFor b p .books)
+deed-stays b (Read c) r = reached-stays b c r
+deed-stays b Syntax r = r
+deed-stays b Unknown r = r
+
+pub event-stays : (s : line.State Books) (next : Place) (e : Event) → Reached (s .books) → Reached (line.onEvent carry s next e .state .books)
+event-stays s next nothing r = r
+event-stays s next brokenFrame r = r
+event-stays s next (heard m) r = go (line.repeats (s .before) m)
   where
-    go : (short : Bool) → ltb (length buffer) 217 ≡ short
-        → ByTheTable s (atDevice buffer byte) (byDevice s buffer (cond short (record { number = 7; gives = []; carried = []; state = s .device }) (line.turn carry (s .device) byte)))
-    go true e = record { numbered = omega arith; row = refl; short = e; means = tt; returns = (refl, refl); stays = (refl, refl); buffer = refl }
-    go false e =
-        let d = device-row (s .device) (read Command (s .device .place) byte .place) (read Command (s .device .place) byte .event) in
-        record {
-          numbered = d .numbered;
-          row = d .row-is;
-          short = e ∙ d .long;
-          means = d .means;
-          returns = (d .gives, refl);
-          stays = (d .keeps, refl);
-          buffer = refl;
-        }
+    go : (repeat : Bool)
+        → Reached (cond repeat (device-rows.again s next) (device-rows.ordered s next m (carry (s .books) m)) .state .books)
+    go true = r
+    go false = deed-stays (s .books) (parsedOf (m .code) (m .content)) r
 
--- the till end
-record TillRow (s : till.State) (h : till.Happening) (t : till.Turn) (row : Row) : Type 0 where
-  means : tillMeans (row .means) s h
-  gives : tillGives (row .returns) s h (countOf (t .word)) (t .puts)
-  keeps : tillKeeps (row .stays) s h (t .state)
-  numbered : numberOf (t .word) < 10
-  row-is : row .number ≡ numberOf (t .word)
-  long : false ≡ eqb (numberOf (t .word)) 7
-
-module _ (next seq code : ℕ) (bytes : List ℕ) (tries : ℕ) (place : Place) where
-  abbrev held : till.State
-  held = record { next = next; pending = till.waits seq code bytes tries place }
-
-  -- the meaning of an event, as `takes` is given it
-  abbrev By : till.Happening → till.Turn → Type 0
-  By h t = till.takes held h ≡ t → TillRow held h t (rowOf (numberOf (t .word)))
-
-  fails : (h : till.Happening) → history.failureOf (held .pending) h ≡ 1 → unsendable held h ≡ false → By h (till.failsTry next seq code bytes tries)
-  fails h one can = go (ltb tries 5) refl
-    where
-      at-once : (late : Bool) → leb 5 tries ≡ late → lastFails held h ≡ late
-      at-once late e = ap (λ n. eqb n 1 && leb 5 tries) one ∙ e
-
-      go : (early : Bool) → ltb tries 5 ≡ early → By h (failsBy next seq code bytes tries early)
-      go true e k =
-          let early : tries < 5 = ltb-true tries 5 e in
-          record {
-            means = (can, at-once false (lt-leb 5 tries early));
-            gives = (ap (λ (t : till.Turn). t .puts) (sym k), refl);
-            keeps = ap (λ (t : till.Turn). t .state) (sym k);
-            numbered = omega arith;
-            row-is = refl;
-            long = refl;
-          }
-      go false e k =
-          let late : 5 ≤ tries = ltb-false tries 5 e in
-          record { means = at-once true (le-leb 5 tries late); gives = (refl, refl); keeps = refl; numbered = omega arith; row-is = refl; long = refl }
-
-  on-byte : (b : ℕ) (x : till.Meaning) → till.byteMeans seq code place b ≡ x → By (till.byte b) (till.onMeaning next seq code bytes tries x)
-  on-byte b till.failed e k = fails (till.byte b) (ap history.failure e) refl k
-  on-byte b (till.goesOn q) e k =
-      record {
-        means = (refl, ap (λ x. eqb (history.failure x) 1 && leb 5 tries) e);
-        gives = (ap (λ (t : till.Turn). t .puts) (sym k), refl);
-        keeps = ap (λ (t : till.Turn). t .state) (sym k);
-        numbered = omega arith;
-        row-is = refl;
-        long = refl;
-      }
-  on-byte b (till.answers a) e k =
-      record {
-        means = (refl, ap (λ x. eqb (history.failure x) 1 && leb 5 tries) e);
-        gives = (ap (λ (t : till.Turn). t .puts) (sym k), refl);
-        keeps = ap (λ (t : till.Turn). t .state) (sym k);
-        numbered = omega arith;
-        row-is = refl;
-        long = refl;
-      }
-
--- a command where none waits
-module _ (next code : ℕ) (content : List ℕ) where
-  abbrev free : till.State
-  free = record { next = next; pending = till.idle }
-
-  abbrev sentIf : Bool → till.Turn
-  sentIf can = cond can (till.sent next (commandOf next code content)) (till.stays NotSent free)
-
-  sends : (can : Bool) → sendable Command (commandOf next code content) ≡ can → till.takes free (till.command code content) ≡ sentIf can
-      → TillRow free (till.command code content) (sentIf can) (rowOf (numberOf (sentIf can .word)))
-  sends true e k =
-      record {
-        means = (ap not e, refl);
-        gives = (ap (λ (t : till.Turn). t .puts) (sym k), refl);
-        keeps = ap (λ (t : till.Turn). t .state) (sym k);
-        numbered = omega arith;
-        row-is = refl;
-        long = refl;
-      }
-  sends false e k = record { means = ap not e; gives = (refl, refl); keeps = refl; numbered = omega arith; row-is = refl; long = refl }
-
-till-row : (next : ℕ) (p : till.Pending) (h : till.Happening)
-    → TillRow (record { next = next; pending = p }) h (till.takes (record { next = next; pending = p }) h)
-    (rowOf (numberOf (till.takes (record { next = next; pending = p }) h .word)))
-till-row next till.idle (till.command code content) = sends next code content (sendable Command (commandOf next code content)) refl refl
-till-row next till.idle (till.byte b) = record { means = (refl, refl); gives = (refl, refl); keeps = refl; numbered = omega arith; row-is = refl; long = refl }
-till-row next till.idle till.timeout = record { means = (refl, refl); gives = (refl, refl); keeps = refl; numbered = omega arith; row-is = refl; long = refl }
-till-row next (till.waits seq code bytes tries place) (till.command other content) =
-    record { means = refl; gives = (refl, refl); keeps = refl; numbered = omega arith; row-is = refl; long = refl }
-till-row next (till.waits seq code bytes tries place) (till.byte b) = on-byte next seq code bytes tries place b (till.byteMeans seq code place b) refl refl
-till-row next (till.waits seq code bytes tries place) till.timeout = fails next seq code bytes tries place till.timeout refl refl refl
-
-at-till : (s : Bench) (buffer : List ℕ) (h : till.Happening) → ByTheTable s (atTill buffer h) (reply s (atTill buffer h))
-at-till s buffer h = go (ltb (length buffer) 210) refl
+pub turn-stays : (room : ℕ) (s : line.State Books) (byte : ℕ) → Reached (s .books) → Reached (lentTurn room s byte .state .books)
+turn-stays room s byte r = go (ltb room 217)
   where
-    go : (short : Bool) → ltb (length buffer) 210 ≡ short
-        → ByTheTable s (atTill buffer h) (byTill s buffer (cond short (till.stays TooShort (s .till)) (till.takes (s .till) h)))
-    go true e = record { numbered = omega arith; row = refl; short = e; means = tt; returns = (refl, refl); stays = (refl, refl); buffer = refl }
-    go false e =
-        let d = till-row (s .till .next) (s .till .pending) h in
-        record {
-          numbered = d .numbered;
-          row = d .row-is;
-          short = e ∙ d .long;
-          means = d .means;
-          returns = d .gives;
-          stays = (d .keeps, refl);
-          buffer = refl;
-        }
+    go : (short : Bool) → Reached (cond short (device-rows.short7 s) (line.turn carry s byte) .state .books)
+    go true = r
+    go false = event-stays s (read Command (s .place) byte .place) (read Command (s .place) byte .event) r
 
-at-once : (s : Bench) (c : Comes) → ByTheTable s c (reply s c)
-at-once s (atDevice buffer byte) = at-device s buffer byte
-at-once s (atTill buffer h) = at-till s buffer h
+-- and the tries stay at five at most
+abbrev Few : till.Turn → Type 0
+Few t = till-rows.triesOf (t .state .pending) ≤ 5
 
--- the theorem: from any state of both ends, so at any moment, whatever comes to either of them gets its one reply by the table
-pub every-reply-is-by-the-table : (s : Bench) (cs : List Comes) → allByTheTable s cs
-every-reply-is-by-the-table s [] = tt
-every-reply-is-by-the-table s (c ∷ cs) = (at-once s c, every-reply-is-by-the-table (reply s c .bench) cs)
-
--- "9: .. the number of tries, 5": row 9 says of any state that the number is that of the tries; from a fresh till end on it is five
-till-after : (s : Bench) (cs : List Comes) → benchAfter s cs .till ≡ history.behind (s .till) (tillPart cs)
-till-after s [] = refl
-till-after s (atDevice buffer byte ∷ cs) = till-after (reply s (atDevice buffer byte) .bench) cs ∙ ap (λ z. history.behind z (tillPart cs)) (at-device s buffer byte .stays .1)
-till-after s (atTill buffer h ∷ cs) = till-after (reply s (atTill buffer h) .bench) cs
-
-nine : (P : ℕ → Type 0) (w : Word) → numberOf w ≡ 9 → ((n : ℕ) → w ≡ Unfinished n → P n) → P (countOf w)
-nine P Idle e k = absurd (omega (arith, e))
-nine P (Waiting n) e k = absurd (omega (arith, e))
-nine P (SendAgain n) e k = absurd (omega (arith, e))
-nine P (Answered n) e k = absurd (omega (arith, e))
-nine P (Unfinished n) e k = k n refl
-nine P TooShort e k = absurd (omega (arith, e))
-nine P NotSent e k = absurd (omega (arith, e))
-
-pub unfinished-after-five : (cs : List Comes) (c : Comes) → reply (benchAfter freshBench cs) c .number ≡ 9 → reply (benchAfter freshBench cs) c .count ≡ 5
-unfinished-after-five cs (atDevice buffer byte) e =
-    let s : Bench = benchAfter freshBench cs in
-    absurd (subst (λ n. meant (rowOf n .means) s (atDevice buffer byte)) e (at-device s buffer byte .means))
-unfinished-after-five cs (atTill buffer h) e =
-    let s : Bench = benchAfter freshBench cs in
-    nine (λ n. n ≡ 5) (till.hears (length buffer) (s .till) h .word) e (λ n k.
-    unfinished-is-five (tillPart cs) (record { size = length buffer; happens = h }) n
-    (ap (λ z. till.hears (length buffer) z h .word) (sym (till-after freshBench cs)) ∙ k) .five)
-
--- "After the fifth failed try the till end says Unfinished, never an answer": the table leaves it no other number
-no-command : (p : till.Pending) (n : ℕ) (h : till.Happening) → unsendable (record { next = n; pending = p }) h ≡ true → lastFails (record { next = n; pending = p }) h ≡ true → ⊥
-no-command till.idle n h u f = false≢true f
-no-command (till.waits seq code bytes tries place) n (till.command other content) u f = false≢true f
-no-command (till.waits seq code bytes tries place) n (till.byte b) u f = false≢true u
-no-command (till.waits seq code bytes tries place) n till.timeout u f = false≢true u
-
-pub the-fifth-failed-try : (s : Bench) (buffer : List ℕ) (h : till.Happening) → 210 ≤ length buffer → lastFails (s .till) h ≡ true
-    → (reply s (atTill buffer h) .number ≡ 9) × (reply s (atTill buffer h) .bytes ≡ [])
-the-fifth-failed-try s buffer h big f =
-    let r = reply s (atTill buffer h) in
-    let t = at-till s buffer h in
-    let nine : r .number ≡ 9 = go (till.hears (length buffer) (s .till) h .word) (t .short) (t .means) in
-    (nine, subst (λ n. returned (rowOf n .returns) s (atTill buffer h) r) nine (t .returns) .0)
+few-failed : (next seq code : ℕ) (bytes : List ℕ) (tries : ℕ) → Few (till.failsTry next seq code bytes tries)
+few-failed next seq code bytes tries = go (ltb tries 5) refl
   where
-    go : (w : Word) → ltb (length buffer) 210 ≡ eqb (numberOf w) 7 → meant (rowOf (numberOf w) .means) s (atTill buffer h) → numberOf w ≡ 9
-    go Idle short m = absurd (false≢true (sym (m .1) ∙ f))
-    go (Waiting n) short m = absurd (false≢true (sym (m .1) ∙ f))
-    go (SendAgain n) short m = absurd (false≢true (sym (m .1) ∙ f))
-    go (Answered n) short m = absurd (false≢true (sym (m .1) ∙ f))
-    go (Unfinished n) short m = refl
-    go TooShort short m = absurd (false≢true (sym (le-ltb (length buffer) 210 big) ∙ short))
-    go NotSent short m = absurd (no-command (s .till .pending) (s .till .next) h m f)
+    go : (early : Bool) → ltb tries 5 ≡ early → Few (failsBy next seq code bytes tries early)
+    go true e = let low : tries < 5 = ltb-true tries 5 e in omega arith
+    go false e = omega arith
+
+few-meant : (next seq code : ℕ) (bytes : List ℕ) (tries : ℕ) (x : till.Meaning) → tries ≤ 5 → Few (till.onMeaning next seq code bytes tries x)
+few-meant next seq code bytes tries till.failed h = few-failed next seq code bytes tries
+few-meant next seq code bytes tries (till.goesOn q) h = h
+few-meant next seq code bytes tries (till.answers m) h = omega arith
+
+few-taken : (next : ℕ) (p : till.Pending) (h : till.Happening) → till-rows.triesOf p ≤ 5 → Few (till.takes (record { next = next; pending = p }) h)
+few-taken next till.idle (till.command code content) few = go (sendable Command (commandOf next code content))
+  where
+    go : (can : Bool) → Few (cond can (till.sent next (commandOf next code content)) (till.stays NotSent (record { next = next; pending = till.idle })))
+    go true = omega arith
+    go false = few
+few-taken next till.idle (till.byte b) few = few
+few-taken next till.idle till.timeout few = few
+few-taken next (till.waits seq code bytes tries place) (till.command other content) few = few
+few-taken next (till.waits seq code bytes tries place) (till.byte b) few = few-meant next seq code bytes tries (till.byteMeans seq code place b) few
+few-taken next (till.waits seq code bytes tries place) till.timeout few = few-failed next seq code bytes tries
+
+pub tries-stay : (lent : ℕ) (s : till.State) (h : till.Happening) → till-rows.triesOf (s .pending) ≤ 5 → Few (till.hears lent s h)
+tries-stay lent s h few = go (ltb lent 210)
+  where
+    go : (short : Bool) → Few (cond short (till.stays TooShort s) (till.takes s h))
+    go true = few
+    go false = few-taken (s .next) (s .pending) h few
+
+-- both, at a moment of a history of fresh ends
+pub record Proper (s : Bench) : Type 0 where
+  pub books : Reached (s .device .books)
+  pub tries : till-rows.triesOf (s .till .pending) ≤ 5
+
+pub fresh-proper : Proper freshBench
+fresh-proper = record { books = fresh-reached; tries = omega arith }
+
+pub proper-stays : (s : Bench) → Proper s → (c : Comes) → Proper (benchAfter s (outcomeOf s c))
+proper-stays s p (atDevice buffer byte) = record { books = turn-stays (length buffer) (s .device) byte (p .books); tries = p .tries }
+proper-stays s p (atTill buffer h) = record { books = p .books; tries = tries-stay (length buffer) (s .till) h (p .tries) }
+
+by-both : (s : Bench) → Proper s → (c : Comes) → ByTheTable s c (outcomeOf s c)
+by-both s p (atDevice buffer byte) = by-the-device s (p .books .fits) buffer byte
+by-both s p (atTill buffer h) = by-the-till-end s (p .tries) buffer h
+
+from-proper : (s : Bench) → Proper s → (cs : List Comes) → AllByTheTable s cs (outcomesOf s cs)
+from-proper s p [] = no-more
+from-proper s p (c ∷ cs) = then (by-both s p c) (from-proper (benchAfter s (outcomeOf s c)) (proper-stays s p c) cs)
+
+-- the theorem: over every history of fresh ends each event has its reply by the table, the one that the ends give
+pub every-event-has-its-reply : (cs : List Comes) → AllByTheTable freshBench cs (outcomesOf freshBench cs)
+every-event-has-its-reply cs = from-proper freshBench fresh-proper cs
+
+-- so that whatever is by the table is what the ends give
+pub no-other-replies : (cs : List Comes) (rs : List Outcome) → AllByTheTable freshBench cs rs → rs ≡ outcomesOf freshBench cs
+no-other-replies cs rs all = the-replies-are-the-only-ones freshBench cs rs (outcomesOf freshBench cs) all (every-event-has-its-reply cs)
+
+-- "After the fifth failed try the till end says Unfinished, never an answer": the table leaves it no other reply
+pub the-fifth-failed-try : (s : Bench) (buffer : List ℕ) (h : till.Happening) (seq code : ℕ) (bytes : List ℕ) (place : Place) → 210 ≤ length buffer
+    → s .till .pending ≡ till.waits seq code bytes 5 place → fails seq code place h ≡ true
+    → (r : Outcome) → ByTheTable s (atTill buffer h) r → r ≡ fromTill (replies 9 (Unfinished 5) 5 [] buffer (noneWaits (s .till)))
+the-fifth-failed-try s buffer h seq code bytes place room e f r b =
+    the-reply-is-the-only-one s (atTill buffer h) r (fromTill (replies 9 (Unfinished 5) 5 [] buffer (noneWaits (s .till)))) b (at-till (row-9 seq code bytes place room e f))

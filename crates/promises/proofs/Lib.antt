@@ -1,7 +1,11 @@
 pub mod Verdicts
+pub mod DeviceRows
+pub mod TillRows
 pub mod Demand1
-pub mod Coded
+pub mod AnyState
 pub mod Rows
+pub mod Sizes
+pub mod Coded
 pub mod Joining
 pub mod Demand2
 pub mod Telling

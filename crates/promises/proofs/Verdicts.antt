@@ -1,8 +1,8 @@
--- A command that was read holds numbers of its fields alone; so it is done, or refused with 3 or 4: 1 and 2 are told before the books are asked.
+-- A command that was read holds numbers of its fields alone, so that the books ask for its reasons and nothing else.
 use mathlib.Core.Path.{_≡_, refl, ap, _∙_}
-use mathlib.Core.Bool.{Bool, true, false, cond, not, _&&_, _||_, false≢true}
+use mathlib.Core.Bool.{Bool, true, false, cond, _&&_, _||_}
 use mathlib.Core.List.{List, [], _∷_}
-use Prim.Native.Nat.{ℕ, _+_, _-_, _<_, min}
+use Prim.Native.Nat.{ℕ, _-_, _<_}
 use native.Mathlib.Omega.{arith}
 use lib.Dec.{eqb, leb, ltb}
 use lib.ListN.{length, drop, getD}
@@ -31,25 +31,11 @@ use Rattle.kinds.specs.declared.Mode.{Mode}
 use Rattle.kinds.specs.declared.Mode.the-variants.{Cash}
 use Rattle.kinds.specs.declared.Parsed.{Parsed}
 use Rattle.kinds.specs.declared.Parsed.the-variants.{Read, Syntax, Unknown}
-use Rattle.kinds.specs.declared.Payment.{Payment}
-use Rattle.kinds.specs.declared.Sale.{Sale}
-use Rattle.kinds.specs.declared.Service.{Service}
-use Rattle.kinds.specs.declared.Service.the-variants.{Report, In, Out}
 use Rattle.command.specs.Money.{star, semicolon, groupOf, percentBy, amountBy, adjustOf, lineOf, quantityIn, pricedOf, adjustedBy, soldOf, behindTabOf, behind, isMode, modeOf, tenderOf, paidOf, payOf, movedBy, drawerOf}
 use Rattle.command.specs.Commands.{parsedOf}
 use Rattle.receipt.specs.Lines.{adjustFits, fits}
-use Rattle.receipt.specs.Receipts as receipts
-use Rattle.receipt.specs.declared.Paid.{Paid}
-use Rattle.receipt.specs.declared.Sold.{Sold}
-use Rattle.books.specs.Books.{fiscalOpen, textOpen, anyOpen}
-use Rattle.books.specs.Groups.{at}
-use Rattle.books.specs.Rates.{rateOf, isEnabled}
-use Rattle.books.specs.Sound.{inTwelve, sound}
-use Rattle.books.specs.declared.Books.{Books}
 use Rattle.history.specs.Digits.{isPrice, priced}
-use Rattle.deeds.specs.Deeds.{refusedWith, judged, full, isRight, soldAs, registerOf, paidAs, cancelledAs, deedOf}
-use Rattle.deeds.specs.declared.Deed.{Deed}
-use Rattle.device.specs.Carrying.{deedFor}
+use Rattle.deeds.proofs.Reasons.{Fitting}
 
 -- what was read: a sale with numbers of its fields, a payment whose amount is a PRICE, or another kind
 abbrev pub RightKind : Command → Type 0
@@ -237,101 +223,19 @@ right-priced (Drawer s) r = refl
 right-priced Status r = refl
 right-priced Rates r = refl
 
--- done, or refused with 3 or 4
-pub data Asked (b : Books) : Deed → Type 0 where
-  did : {d : Deed} → d .number ≡ 0 → Asked b d
-  refused3 : Asked b (refusedWith 3 b)
-  refused4 : Asked b (refusedWith 4 b)
-
-module _ (b : Books) where
-  judging : (three four : Bool) (d : Deed) → Asked b d → Asked b (judged b three four d)
-  judging true four d r = refused3
-  judging false true d r = refused4
-  judging false false d r = r
-
-  module _ (s : Sale) where
-    abbrev verdict : Bool → Bool → Bool → Sold
-    verdict fit n o =
-        cond fit
-        (cond n (record { number = 3; receipt = b .receipt })
-        (cond o (record { number = 4; receipt = b .receipt }) (record { number = 0; receipt = receipts.withLine (b .receipt) s })))
-        (record { number = 1; receipt = b .receipt })
-
-    selling : fits s ≡ true → Asked b (soldAs b (receipts.soldOf (b .receipt) s (isEnabled (rateOf (s .group))) (at (b .day) (s .group))))
-    selling e = go (fits s) e (receipts.notPermitted (b .receipt) s (isEnabled (rateOf (s .group)))) (receipts.overflows (b .receipt) s (at (b .day) (s .group)))
-      where
-        go : (fit : Bool) → fit ≡ true → (n o : Bool) → Asked b (soldAs b (verdict fit n o))
-        go false e n o = absurd (false≢true e)
-        go true e true o = refused3
-        go true e false true = refused4
-        go true e false false = did refl
-
-  module _ (p : Payment) where
-    abbrev rest : ℕ
-    rest = b .receipt .total - b .receipt .paid
-
-    abbrev handed : ℕ
-    handed = receipts.givenOf rest (p .tender)
-
-    abbrev answer : Bool → Bool → Bool → Paid
-    answer settled above over =
-        cond settled (receipts.notPaidOf 3 (b .receipt))
-        (cond above (receipts.notPaidOf 3 (b .receipt))
-        (cond over (receipts.notPaidOf 4 (b .receipt)) (receipts.paidOf (b .receipt) rest handed)))
-
-    paying : Asked b (paidAs b (p .mode) (receipts.paymentOf (b .receipt) p (registerOf b (p .mode))))
-    paying =
-        go (b .receipt .settled) (not (receipts.isCash (p .mode)) && ltb rest handed)
-        (ltb 999999999999 (registerOf b (p .mode) + min handed rest))
-      where
-        go : (settled above over : Bool) → Asked b (paidAs b (p .mode) (answer settled above over))
-        go true above over = refused3
-        go false true over = refused3
-        go false false true = refused4
-        go false false false = did refl
-
-  cancelling : Asked b (cancelledAs b (receipts.cancelOf (b .receipt)))
-  cancelling = go (b .receipt .tried)
-    where
-      go : (t : Bool) → Asked b (cancelledAs b (cond t (record { number = 3; receipt = b .receipt }) (record { number = 0; receipt = receipts.emptyReceipt })))
-      go true = refused3
-      go false = did refl
-
-  serving : (s : Service) → Asked b (deedOf b (Drawer s))
-  serving Report = judging (anyOpen (b .opened)) false _ (did refl)
-  serving (In n) = judging (anyOpen (b .opened)) (not (inTwelve (b .drawer .cash + n)) || not (inTwelve (b .drawer .put + n))) _ (did refl)
-  serving (Out n) = judging (anyOpen (b .opened) || ltb (b .drawer .cash) n) (not (inTwelve (b .drawer .taken + n))) _ (did refl)
-
-  asking : (c : Command) → RightKind c → Asked b (deedOf b c)
-  asking OpenText r = judging (anyOpen (b .opened) || leb 9999 (b .counters .all)) false _ (did refl)
-  asking CloseText r = judging (not (textOpen (b .opened))) false _ (did refl)
-  asking PrintText r = judging (not (textOpen (b .opened))) false _ (did refl)
-  asking (Open op p till) r = judging (not (isRight p) || anyOpen (b .opened) || leb 9999 (b .counters .all) || full b) false _ (did refl)
-  asking (Sell s) r = judging (not (fiscalOpen (b .opened))) false _ (selling s r)
-  asking (Subtotal print show) r = judging (not (fiscalOpen (b .opened))) false _ (did refl)
-  asking (Pay p) r = judging (not (fiscalOpen (b .opened))) false _ (paying p)
-  asking Close r = judging (not (fiscalOpen (b .opened)) || not (b .receipt .settled)) false _ (did refl)
-  asking Cancel r = judging (not (fiscalOpen (b .opened))) false _ cancelling
-  asking (Sums taxes) r = did refl
-  asking (Closing clear) r = judging (anyOpen (b .opened) || clear && full b) false _ (did refl)
-  asking (Drawer s) r = serving s
-  asking Status r = did refl
-  asking Rates r = did refl
-
-  asked-of : (c : Command) → RightKind c → (fit : Bool) → Asked b (cond fit (deedOf b c) (refusedWith 4 b))
-  asked-of c r true = asking c r
-  asked-of c r false = refused4
-
--- what a whole frame asks of the books is done, or refused with its number
-pub data Judged (b : Books) : Parsed → Deed → Type 0 where
-  unread : Judged b Syntax (refusedWith 1 b)
-  unknown : Judged b Unknown (refusedWith 2 b)
-  asked : {c : Command} {d : Deed} → Asked b d → Judged b (Read c) d
-
-pub judge : (b : Books) (code : ℕ) (s : List ℕ) → Judged b (parsedOf code s) (deedFor b (parsedOf code s))
-judge b code s = go (parsedOf code s) (parsed-right code s)
-  where
-    go : (p : Parsed) → Right p → Judged b p (deedFor b p)
-    go Syntax syntax = unread
-    go Unknown no-kind = unknown
-    go (Read c) (is-read r) = asked (asked-of b c r (sound b))
+-- and a command that was read fits the books' question
+pub right-fitting : (c : Command) → RightKind c → Fitting c
+right-fitting OpenText r = tt
+right-fitting CloseText r = tt
+right-fitting PrintText r = tt
+right-fitting (Open op p till) r = tt
+right-fitting (Sell s) r = r
+right-fitting (Subtotal print show) r = tt
+right-fitting (Pay p) r = tt
+right-fitting Close r = tt
+right-fitting Cancel r = tt
+right-fitting (Sums taxes) r = tt
+right-fitting (Closing clear) r = tt
+right-fitting (Drawer s) r = tt
+right-fitting Status r = tt
+right-fitting Rates r = tt

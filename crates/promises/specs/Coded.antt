@@ -1,23 +1,132 @@
--- The replies of `Demand1` are those of the code: what the functions promise of one event, read as a reply.
-use Prim.Native.Nat.{ℕ}
+-- The code, call by call: any list of calls of the device's `hear` and of the till end's `command`, `byte` and `timeout`, with any bytes and any lent buffers,
+-- on the fields and arrays that each call hands to the next. What the functions promise of a call is what the table says of the events in it.
+use Prim.Native.Nat.{ℕ, _+_, _≤_, _<_}
 use mathlib.Core.Path.{_≡_}
-use mathlib.Core.List.{List}
+use mathlib.Core.Bool.{Bool, true, false}
+use mathlib.Core.List.{List, [], _∷_}
+use lib.ListN.{length, take}
+use lib.Seq.{sets}
+use Rattle.reader.specs.Reading.{outside, Event, nothing, brokenFrame, heard}
+use Rattle.reader.specs.Fields.{readerOf}
+use Rattle.books.specs.Books.{freshBooks}
+use Rattle.books.specs.declared.Books.{Books}
+use Rattle.line.specs.declared.Line.{Line}
+use Rattle.line.specs.declared.Previous.the-variants.{Nothing}
 use Rattle.device.specs.Device as device
+use Rattle.device.specs.Hearing.{PartHeard, afterPart}
+use Rattle.till.specs.Turns as till
 use Rattle.till.specs.Fields as fields
 use Rattle.till.specs.Words.{numberOf, countOf}
-use Rattle.till.specs.declared.Said.{Said}
-use Rattle.promises.specs.Demand1.{Reply}
+use Rattle.till.specs.declared.Till.{Till}
+use Rattle.till.specs.declared.Word.{Word}
+use Rattle.till.specs.declared.Word.the-variants.{Idle, Waiting, SendAgain, Answered, Unfinished, TooShort, NotSent}
+use Rattle.promises.specs.AtDevice.{FromDevice, tells, reads}
+use Rattle.promises.specs.AtTill.{FromTill}
+use Rattle.promises.specs.Demand1.{Bench, atDevice, atTill, fromDevice, fromTill, benchAfter, ByTheTable}
 
--- the device: `take_byte` promises an `After`
-pub record DeviceSays (a : device.After) (r : Reply) : Type 0 where
-  pub number : a .given .number ≡ r .number
-  pub count : a .given .count ≡ r .count
-  pub buffer : a .buffer ≡ r .buffer
-  pub state : device.stateOf (a .given .line) (a .given .books) (a .frame) (a .last) ≡ r .bench .device
+-- what is handed from call to call: the device's line, books and two arrays, the till end's fields and two arrays
+pub record Machines : Type 0 where
+  pub line : Line
+  pub books : Books
+  pub frame : List ℕ
+  pub last : List ℕ
+  pub till : Till
+  pub sent : List ℕ
+  pub answer : List ℕ
 
--- the till end: `command`, `byte` and `timeout` promise a `Said`, its two arrays and the lent buffer
-pub record TillSays (said : Said) (frame answer buffer : List ℕ) (r : Reply) : Type 0 where
-  pub number : numberOf (said .word) ≡ r .number
-  pub count : countOf (said .word) ≡ r .count
-  pub bytes : buffer ≡ r .buffer
-  pub state : fields.stateOf (said .till) frame answer ≡ r .bench .till
+-- as `line::fresh`, `books::fresh` and `till::fresh` give them, with arrays of any contents
+pub record Fresh (f : Machines) : Type 0 where
+  pub line : f .line ≡ record { reader = readerOf outside; previous = Nothing }
+  pub books : f .books ≡ freshBooks
+  pub frame : length (f .frame) ≡ 256
+  pub last : length (f .last) ≡ 217
+  pub till : f .till ≡ fields.tillOf till.freshState
+  pub sent : length (f .sent) ≡ 256
+  pub answer : length (f .answer) ≡ 256
+
+-- the state of both ends that they say
+abbrev pub benchOf : Machines → Bench
+benchOf f = record { device = device.stateOf (f .line) (f .books) (f .frame) (f .last); till = fields.stateOf (f .till) (f .sent) (f .answer) }
+
+pub data CodeCall : Type 0 where
+  hear : (buffer bytes : List ℕ) → CodeCall
+  happens : (buffer : List ℕ) (h : till.Happening) → CodeCall
+
+-- what the promises say of a call
+abbrev pub partAfter : Machines → (buffer bytes : List ℕ) → PartHeard
+partAfter f buffer bytes = afterPart (f .line) (f .books) (f .frame) (f .last) buffer bytes
+
+abbrev pub turnAfter : Machines → List ℕ → till.Happening → till.Turn
+turnAfter f buffer h = fields.turnOf (f .till) (f .sent) (f .answer) buffer h
+
+abbrev pub handedOn : Machines → CodeCall → Machines
+handedOn f (hear buffer bytes) =
+    let p = partAfter f buffer bytes in
+    record { line = p .hearing .given .line; books = p .hearing .given .books; frame = p .frame; last = p .last; till = f .till; sent = f .sent; answer = f .answer }
+handedOn f (happens buffer h) =
+    let t = turnAfter f buffer h in
+    record {
+      line = f .line;
+      books = f .books;
+      frame = f .frame;
+      last = f .last;
+      till = fields.saidOf (f .till) t .till;
+      sent = fields.framed (f .sent) (t .state .pending);
+      answer = fields.heldIn (f .answer) (t .state .pending);
+    }
+
+-- the result of a device's call is a reply: number, count, the bytes given back, every byte of the buffer, and the state that its fields and arrays say
+pub record DeviceResult (p : PartHeard) (r : FromDevice) : Type 0 where
+  pub number : p .hearing .given .number ≡ r .number
+  pub count : p .hearing .given .count ≡ r .count
+  pub bytes : take (p .hearing .given .count) (p .buffer) ≡ r .bytes
+  pub buffer : p .buffer ≡ r .buffer
+  pub state : device.stateOf (p .hearing .given .line) (p .hearing .given .books) (p .frame) (p .last) ≡ r .device
+
+-- how many bytes a word says are given back; of 9 its number is that of the tries
+abbrev pub givenIn : Word → ℕ
+givenIn Idle = 0
+givenIn (Waiting count) = count
+givenIn (SendAgain count) = count
+givenIn (Answered count) = count
+givenIn (Unfinished tries) = 0
+givenIn TooShort = 0
+givenIn NotSent = 0
+
+-- and so of the till end's
+pub record TillResult (f : Machines) (lent : List ℕ) (h : till.Happening) (r : FromTill) : Type 0 where
+  pub word : fields.saidOf (f .till) (turnAfter f lent h) .word ≡ r .word
+  pub number : numberOf (turnAfter f lent h .word) ≡ r .number
+  pub count : countOf (turnAfter f lent h .word) ≡ r .count
+  pub bytes : take (givenIn (turnAfter f lent h .word)) (sets lent 0 (turnAfter f lent h .puts)) ≡ r .bytes
+  pub buffer : sets lent 0 (turnAfter f lent h .puts) ≡ r .buffer
+  pub state : benchOf (handedOn f (happens lent h)) .till ≡ r .till
+
+-- a byte that breaks a frame or ends one isAsking for something
+abbrev pub isAsking : Event → Bool
+isAsking nothing = false
+isAsking brokenFrame = true
+isAsking (heard m) = true
+
+-- a part of bytes by the table, with how many of them are taken and the reply to the last of these: every byte before it is taken with nothing given back
+pub data PartByTheTable (buffer : List ℕ) : Bench → List ℕ → ℕ → FromDevice → Type 0 where
+  -- 7 before all else: no byte is taken, whichever comes
+  not-taken : {s : Bench} {bytes : List ℕ} {r : FromDevice} → length buffer < 217 → ((byte : ℕ) → ByTheTable s (atDevice buffer byte) (fromDevice r))
+      → PartByTheTable buffer s bytes 0 r
+  no-byte : {s : Bench} → 217 ≤ length buffer → PartByTheTable buffer s [] 0 (tells 0 [] buffer (s .device))
+  -- the first that isAsking for something ends the call
+  asking-byte : {s : Bench} {byte : ℕ} {bytes : List ℕ} {r : FromDevice} → isAsking (reads (s .device) byte .event) ≡ true
+      → ByTheTable s (atDevice buffer byte) (fromDevice r) → PartByTheTable buffer s (byte ∷ bytes) 1 r
+  quiet-byte : {s : Bench} {byte taken : ℕ} {bytes : List ℕ} {after r : FromDevice} → isAsking (reads (s .device) byte .event) ≡ false
+      → ByTheTable s (atDevice buffer byte) (fromDevice after) → after .bytes ≡ [] → PartByTheTable buffer (benchAfter s (fromDevice after)) bytes taken r
+      → PartByTheTable buffer s (byte ∷ bytes) (taken + 1) r
+
+-- calls one after the other: at both ends as the table leaves them, and on the fields and arrays as the code leaves them
+pub data CodeByTheTable : Bench → Machines → List CodeCall → Type 0 where
+  no-call : {s : Bench} {f : Machines} → CodeByTheTable s f []
+  device-call : {s : Bench} {f : Machines} {buffer bytes : List ℕ} {calls : List CodeCall} (r : FromDevice)
+      → PartByTheTable buffer s bytes (partAfter f buffer bytes .hearing .taken) r → DeviceResult (partAfter f buffer bytes) r
+      → CodeByTheTable (benchAfter s (fromDevice r)) (handedOn f (hear buffer bytes)) calls → CodeByTheTable s f (hear buffer bytes ∷ calls)
+  till-call : {s : Bench} {f : Machines} {buffer : List ℕ} {h : till.Happening} {calls : List CodeCall} (r : FromTill)
+      → ByTheTable s (atTill buffer h) (fromTill r) → TillResult f buffer h r
+      → CodeByTheTable (benchAfter s (fromTill r)) (handedOn f (happens buffer h)) calls → CodeByTheTable s f (happens buffer h ∷ calls)

@@ -1,5 +1,7 @@
-pub mod Table
+pub mod AtDevice
+pub mod AtTill
 pub mod Demand1
+pub mod Ends
 pub mod Coded
 pub mod Demand2
 pub mod Demand3

@@ -1,0 +1,117 @@
+-- Sizes that hold in every history: what waits at the till end, and what is given back.
+use mathlib.Core.Path.{_≡_, refl, sym, subst}
+use mathlib.Core.Bool.{Bool, true, false, cond}
+use mathlib.Core.List.{List, [], _∷_, _++_}
+use Prim.Native.Nat.{ℕ, _+_, _≤_, _<_}
+use native.Mathlib.Omega.{arith}
+use lib.Dec.{eqb, ltb}
+use lib.ListN.{length, getD, take, drop, length-append, length-take}
+use borrow.Author.Tests.{ltb-false}
+use Rattle.wire.specs.Frame.{Message, commandOf, answerOf, frame, counted, bcc, total, inner, sendable}
+use Rattle.wire.specs.Places.{dataCount}
+use Rattle.wire.specs.declared.Kind.the-variants.{Command, Answer}
+use Rattle.reader.specs.Reading.{Place, outside, inside, Event, nothing, brokenFrame, heard, suits, atLast, Standing, broken, beginning, whole, goesOn, grown, message, startsAnew, readOther, read}
+use Rattle.reader.proofs.Holding.{Short, short-read}
+use Rattle.reader.proofs.RoundTrip.{frame-size}
+use Rattle.till.specs.Turns as till
+use Rattle.till.specs.declared.Word.the-variants.{TooShort, NotSent}
+use Rattle.till.proofs.Answers.{answers-heard}
+use Rattle.till.proofs.Seeing.{failsBy, goes-place}
+
+-- a whole answer heard: at most 200 bytes of data and six of status
+abbrev Brief : Event → Type 0
+Brief nothing = Unit {0}
+Brief brokenFrame = Unit {0}
+Brief (heard m) = length (m .content ++ m .status) ≤ 206
+
+brief-message : (sum : ℕ) (bytes : List ℕ) → Short Answer (inside sum bytes) → length (message Answer bytes .content ++ message Answer bytes .status) ≤ 206
+brief-message sum bytes h =
+    let n : ℕ = dataCount Answer (getD bytes 0 0) in
+    omega (arith, length-append (take n (drop 3 bytes)) (take 6 (drop (4 + n) bytes)), length-take n (drop 3 bytes), length-take 6 (drop (4 + n) bytes), announced bytes h)
+  where
+    announced : (bytes : List ℕ) → Short Answer (inside sum bytes) → dataCount Answer (getD bytes 0 0) ≤ 200
+    announced [] h = omega arith
+    announced (len ∷ rest) h = omega (arith, h .0)
+
+brief-read : (p : Place) (b : ℕ) → Short Answer p → Brief (read Answer p b .event)
+brief-read p b h = go (eqb b 0x01)
+  where
+    anew : (q : Place) → Brief (startsAnew q)
+    anew outside = tt
+    anew (inside sum []) = tt
+    anew (inside sum (x ∷ xs)) = tt
+
+    by : (sum : ℕ) (bytes : List ℕ) → Short Answer (inside sum bytes) → (st : Standing) (next : Place) → Brief (goesOn st next (message Answer bytes) .event)
+    by sum bytes s broken next = tt
+    by sum bytes s beginning next = tt
+    by sum bytes s whole next = brief-message sum bytes s
+
+    other : (q : Place) → Short Answer q → Brief (readOther Answer q b .event)
+    other outside s = tt
+    other (inside sum bytes) s = by sum bytes s (cond (suits Answer sum bytes b) (cond (atLast Answer bytes) whole beginning) broken) (inside (grown Answer sum bytes b) (bytes ++ b ∷ []))
+
+    go : (start : Bool) → Brief (cond start (record { place = inside 0 []; event = startsAnew p }) (readOther Answer p b) .event)
+    go true = anew p
+    go false = other p h
+
+-- what waits at the till end: a frame of 210 bytes at most, and its answer in reading
+abbrev pub Sized : till.Pending → Type 0
+Sized till.idle = Unit {0}
+Sized (till.waits seq code bytes tries place) = (length bytes ≤ 210) × Short Answer place
+
+-- and what an event leaves waiting, and puts in the lent buffer
+pub record Fitting-turn (t : till.Turn) : Type 0 where
+  pub leaves : Sized (t .state .pending)
+  pub puts : length (t .puts) ≤ 210
+
+failing : (next seq code : ℕ) (bytes : List ℕ) (tries : ℕ) → length bytes ≤ 210 → Fitting-turn (till.failsTry next seq code bytes tries)
+failing next seq code bytes tries h = go (ltb tries 5)
+  where
+    go : (early : Bool) → Fitting-turn (failsBy next seq code bytes tries early)
+    go true = record { leaves = (h, tt); puts = h }
+    go false = record { leaves = tt; puts = omega arith }
+
+meaning : (next seq code : ℕ) (bytes : List ℕ) (tries : ℕ) (place : Place) (b : ℕ) → Sized (till.waits seq code bytes tries place) → (x : till.Meaning)
+    → till.byteMeans seq code place b ≡ x → Fitting-turn (till.onMeaning next seq code bytes tries x)
+meaning next seq code bytes tries place b h till.failed e = failing next seq code bytes tries (h .0)
+meaning next seq code bytes tries place b h (till.goesOn q) e =
+    record { leaves = (h .0, subst (Short Answer) (sym (goes-place seq code place b q e)) (short-read Answer place b (h .1))); puts = omega arith }
+meaning next seq code bytes tries place b h (till.answers m) e =
+    let brief : length (m .content ++ m .status) ≤ 206 = subst Brief (answers-heard seq code place b m e .hears) (brief-read place b (h .1)) in
+    record { leaves = tt; puts = omega (arith, brief) }
+
+taken : (next : ℕ) (p : till.Pending) → Sized p → (h : till.Happening) → Fitting-turn (till.takes (record { next = next; pending = p }) h)
+taken next till.idle s (till.command code content) = go (sendable Command (commandOf next code content)) refl
+  where
+    go : (can : Bool) → sendable Command (commandOf next code content) ≡ can
+        → Fitting-turn (cond can (till.sent next (commandOf next code content)) (till.stays NotSent (record { next = next; pending = till.idle })))
+    go true e =
+        let few : length (frame Command (commandOf next code content)) ≤ 210 = frame-size Command (commandOf next code content) e .1 in
+        record { leaves = (few, tt); puts = few }
+    go false e = record { leaves = tt; puts = omega arith }
+taken next till.idle s (till.byte b) = record { leaves = tt; puts = omega arith }
+taken next till.idle s till.timeout = record { leaves = tt; puts = omega arith }
+taken next (till.waits seq code bytes tries place) s (till.command other content) = record { leaves = s; puts = omega arith }
+taken next (till.waits seq code bytes tries place) s (till.byte b) = meaning next seq code bytes tries place b s (till.byteMeans seq code place b) refl
+taken next (till.waits seq code bytes tries place) s till.timeout = failing next seq code bytes tries (s .0)
+
+-- with a buffer lent: what is put has room in it
+pub record Roomy-turn (buffer : List ℕ) (t : till.Turn) : Type 0 where
+  pub leaves : Sized (t .state .pending)
+  pub puts : length (t .puts) ≤ length buffer
+
+pub turn-fits : (s : till.State) → Sized (s .pending) → (buffer : List ℕ) (h : till.Happening) → Roomy-turn buffer (till.hears (length buffer) s h)
+turn-fits s z buffer h = go (ltb (length buffer) 210) refl
+  where
+    go : (short : Bool) → ltb (length buffer) 210 ≡ short → Roomy-turn buffer (cond short (till.stays TooShort s) (till.takes s h))
+    go true e = record { leaves = z; puts = omega arith }
+    go false e =
+        let t : Fitting-turn (till.takes s h) = taken (s .next) (s .pending) z h in
+        record { leaves = t .leaves; puts = omega (arith, t .puts, ltb-false (length buffer) 210 e) }
+
+-- an answer frame has 17 bytes besides its data
+pub answer-length : (seq code : ℕ) (content status : List ℕ) → length (frame Answer (answerOf seq code content status)) ≡ length content + length status + 11
+answer-length seq code content status =
+    let between : List ℕ = inner Answer (answerOf seq code content status) in
+    let checked : List ℕ = bcc (total (counted seq code between)) in
+    omega (arith, length-append (counted seq code between ++ checked) (0x03 ∷ []), length-append (counted seq code between) checked, length-append between (0x05 ∷ []), length-append content (0x04 ∷ status))

@@ -1,0 +1,91 @@
+-- Demand 1 at the device. Document 01, "Reply numbers", row by row: what each row means, what is given back, what stays, and every byte of the lent buffer.
+use Prim.Native.Nat.{ℕ, _≤_, _<_}
+use mathlib.Core.Path.{_≡_}
+use mathlib.Core.Bool.{true, false}
+use mathlib.Core.List.{List, [], _∷_}
+use lib.ListN.{length}
+use lib.Seq.{sets}
+use Rattle.wire.specs.Frame.{Message, answerOf, frame}
+use Rattle.wire.specs.declared.Kind.the-variants.{Command, Answer}
+use Rattle.reader.specs.Reading.{Event, nothing, brokenFrame, heard, Read, read}
+use Rattle.books.specs.declared.Books.{Books}
+use Rattle.answers.specs.Contents.{contentOf}
+use Rattle.answers.specs.Status.{receipts, memories}
+use Rattle.kinds.specs.declared.Command as kinds
+use Rattle.kinds.specs.declared.Parsed.the-variants as parsed
+use Rattle.command.specs.Commands.{parsedOf}
+use Rattle.deeds.specs.Reasons.{three, four}
+use Rattle.deeds.specs.Effects.{effect, shows}
+use Rattle.line.specs.Turns.{was, State, repeats, lastAnswer}
+
+-- what comes from the device for one byte: its reply number, how many bytes are given back and which, the lent buffer and the device afterwards
+pub record FromDevice : Type 0 where
+  pub number : ℕ
+  pub count : ℕ
+  pub bytes : List ℕ
+  pub buffer : List ℕ
+  pub device : State Books
+
+-- "Buffer bytes past the answer stay as they were; when nothing is given back, all do."
+abbrev pub tells : ℕ → List ℕ → List ℕ → State Books → FromDevice
+tells number bytes buffer after = record { number = number; count = length bytes; bytes = bytes; buffer = sets buffer 0 bytes; device = after }
+
+-- what the byte is to the frame that is being read, and where reading stands behind it
+abbrev pub reads : State Books → ℕ → Read
+reads s byte = read Command (s .place) byte
+
+-- the reading place moved, and nothing else
+abbrev pub moved : State Books → ℕ → State Books
+moved s byte = record { place = reads s byte .place; before = s .before; books = s .books }
+
+-- "Numbers 1 to 4 still become 'the frame before' with its answer", and a command done does; these are the books from then on
+abbrev pub remembers : State Books → ℕ → Message → List ℕ → Books → State Books
+remembers s byte m answer b = record { place = reads s byte .place; before = was (m .seq) (m .code) answer; books = b }
+
+-- with 217 bytes lent, a whole frame that is no repeat
+pub record NewFrame (s : State Books) (buffer : List ℕ) (byte : ℕ) (m : Message) : Type 0 where
+  pub room : 217 ≤ length buffer
+  pub whole : reads s byte .event ≡ heard m
+  pub new : repeats (s .before) m ≡ false
+
+-- and it is read as one of the fourteen kinds
+pub record NewCommand (s : State Books) (buffer : List ℕ) (byte : ℕ) (m : Message) (c : kinds.Command) : Type 0 where
+  pub frame : NewFrame s buffer byte m
+  pub kind : parsedOf (m .code) (m .content) ≡ parsed.Read c
+
+-- the answer to a command, with its SEQ and CMD: two status bytes tell the verdict, the other four the books behind it. Bit k of a status byte counts 2 to the
+-- power of k and "Bit 7 is always 1": 0.0 is 01h, 0.1 02h, 0.5 20h; 1.0 01h, 1.1 02h.
+abbrev pub answerWith : Message → List ℕ → (first second : ℕ) → Books → List ℕ
+answerWith m content first second b =
+    frame Answer
+    (answerOf (m .seq) (m .code) content (first ∷ second ∷ receipts (b .opened) ∷ 0x80 ∷ memories (b .memory .closings) ∷ 0x9A ∷ []))
+
+-- of a command done: what it shows, after its effect
+abbrev pub doneWith : Books → Message → kinds.Command → List ℕ
+doneWith b m c = answerWith m (contentOf (shows b c) (b .day) (effect b c)) 0x80 0x80 (effect b c)
+
+pub data ByDevice (s : State Books) (buffer : List ℕ) (byte : ℕ) : FromDevice → Type 0 where
+  -- 0 "byte taken": "nothing"; all stays but the reading place
+  row-0-taken : 217 ≤ length buffer → reads s byte .event ≡ nothing → ByDevice s buffer byte (tells 0 [] buffer (moved s byte))
+  -- 0 "done": no reason for 3 and none for 4; "answer"; "as the command says", its effect
+  row-0-done : (m : Message) (c : kinds.Command) → NewCommand s buffer byte m c → three (s .books) c ≡ false → four (s .books) c ≡ false
+      → ByDevice s buffer byte (tells 0 (doneWith (s .books) m c) buffer (remembers s byte m (doneWith (s .books) m c) (effect (s .books) c)))
+  -- 1 "syntax": "answer, no data, status 0.0 and 0.5"; "receipt, day, cash", and "counters, closings and all else stay"
+  row-1 : (m : Message) → NewFrame s buffer byte m → parsedOf (m .code) (m .content) ≡ parsed.Syntax
+      → ByDevice s buffer byte (tells 1 (answerWith m [] 0xA1 0x80 (s .books)) buffer (remembers s byte m (answerWith m [] 0xA1 0x80 (s .books)) (s .books)))
+  -- 2 "unknown command": "same, 0.1 and 0.5"
+  row-2 : (m : Message) → NewFrame s buffer byte m → parsedOf (m .code) (m .content) ≡ parsed.Unknown
+      → ByDevice s buffer byte (tells 2 (answerWith m [] 0xA2 0x80 (s .books)) buffer (remembers s byte m (answerWith m [] 0xA2 0x80 (s .books)) (s .books)))
+  -- 3 "not permitted now": a reason for 3; "same, 1.1 and 0.5"
+  row-3 : (m : Message) (c : kinds.Command) → NewCommand s buffer byte m c → three (s .books) c ≡ true
+      → ByDevice s buffer byte (tells 3 (answerWith m [] 0xA0 0x82 (s .books)) buffer (remembers s byte m (answerWith m [] 0xA0 0x82 (s .books)) (s .books)))
+  -- 4 "overflow": no reason for 3 and one for 4; "same, 1.0, 1.1 and 0.5"
+  row-4 : (m : Message) (c : kinds.Command) → NewCommand s buffer byte m c → three (s .books) c ≡ false → four (s .books) c ≡ true
+      → ByDevice s buffer byte (tells 4 (answerWith m [] 0xA0 0x83 (s .books)) buffer (remembers s byte m (answerWith m [] 0xA0 0x83 (s .books)) (s .books)))
+  -- 5 "broken frame": "NAK, one byte"; "all but the reading place"
+  row-5 : 217 ≤ length buffer → reads s byte .event ≡ brokenFrame → ByDevice s buffer byte (tells 5 (0x15 ∷ []) buffer (moved s byte))
+  -- 6 "repeat": "last answer"; "all but the reading place"
+  row-6 : (m : Message) → 217 ≤ length buffer → reads s byte .event ≡ heard m → repeats (s .before) m ≡ true
+      → ByDevice s buffer byte (tells 6 (lastAnswer (s .before)) buffer (moved s byte))
+  -- 7 "lent buffer too short (device 217)": "nothing"; "everything; the byte .. is not taken"
+  row-7 : length buffer < 217 → ByDevice s buffer byte (tells 7 [] buffer s)
