@@ -13,7 +13,7 @@ use Rattle.wire.specs.declared.Kind.the-variants.{Command}
 use Rattle.reader.specs.Reading.{outside}
 use Rattle.reader.specs.Fields.{placeOf, readerOf}
 use Rattle.reader.proofs.Running.{bytesOf}
-use Rattle.reader.proofs.Holding.{Short}
+use Rattle.reader.proofs.Holding.{Underway}
 use Rattle.books.specs.Books.{freshBooks}
 use Rattle.books.specs.declared.Books.{Books}
 use Rattle.line.specs.Turns.{Session, session}
@@ -129,7 +129,7 @@ pub record Head (bytes out0 orders0 out orders frame last buf : List ℕ) (l : L
   pub frames : length frame ≡ 256
   pub lasts : length last ≡ 217
   pub room : length buf ≡ 217
-  pub held : Short Command (placeOf (l .reader) frame)
+  pub held : Underway Command (placeOf (l .reader) frame)
   pub outs : length out ≡ length out0
   pub orderss : length orders ≡ length orders0
   pub written-in : written ≤ length out

@@ -14,7 +14,7 @@ use Rattle.wire.specs.declared.Kind.the-variants.{Command}
 use Rattle.reader.specs.Reading.{Place, outside, Event, nothing, brokenFrame, heard, Read, read}
 use Rattle.reader.specs.Fields.{placeOf, readerOf, keptIn}
 use Rattle.reader.proofs.Running.{bytesOf, place-back, read-room, kept-length}
-use Rattle.reader.proofs.Holding.{Short, short-few, short-read}
+use Rattle.reader.proofs.Holding.{Underway, underway-few, underway-read}
 use Rattle.books.specs.declared.Books.{Books}
 use Rattle.line.specs.Turns.{Before, was, State, Turn, turn, onEvent, Session, session, repeats}
 use Rattle.line.specs.Calls.{beforeOf, isRepeat, isQuiet, callOf, calledOf}
@@ -158,12 +158,12 @@ pub record Part (l : Line) (b : Books) (frame last buffer bytes : List ℕ) (h :
   pub frames : length (h .frame) ≡ 256
   pub lasts : length (h .last) ≡ 217
   pub room : length (h .buffer) ≡ length buffer
-  pub held : Short Command (placeOf (h .hearing .given .line .reader) (h .frame))
+  pub held : Underway Command (placeOf (h .hearing .given .line .reader) (h .frame))
   pub goes-on : session carry (stateOf l b frame last) bytes
       ≡ behind gives carried (session carry (stateOf (h .hearing .given .line) (h .hearing .given .books) (h .frame) (h .last)) (drop (h .hearing .taken) bytes))
 
 pub part-is : (bytes : List ℕ) (l : Line) (b : Books) (frame last buffer : List ℕ) → length frame ≡ 256 → length last ≡ 217 → 217 ≤ length buffer
-    → Short Command (placeOf (l .reader) frame) → hearing l b frame last buffer bytes .hearing .given .count ≤ 217
+    → Underway Command (placeOf (l .reader) frame) → hearing l b frame last buffer bytes .hearing .given .count ≤ 217
     → Part l b frame last buffer bytes (hearing l b frame last buffer bytes)
 part-is [] l b frame last buffer frames lasts room held few =
     record { gives = []; carried = []; given-is = refl; listed-is = refl; frames = frames; lasts = lasts; room = refl; held = held; goes-on = refl }
@@ -192,12 +192,12 @@ part-is (x ∷ xs) l b frame last buffer frames lasts room held few = go (isQuie
     lasts' = last-length (t .carried) ∙ lasts
 
     back : length (t .gives) ≤ 217 → stateOf (a .given .line) (a .given .books) (a .frame) (a .last) ≡ t .state
-    back f = state-back l b frame last lasts x (short-few Command (placeOf (l .reader) frame) held) frames f
+    back f = state-back l b frame last lasts x (underway-few Command (placeOf (l .reader) frame) held) frames f
 
-    held' : length (t .gives) ≤ 217 → Short Command (placeOf (a .given .line .reader) (a .frame))
+    held' : length (t .gives) ≤ 217 → Underway Command (placeOf (a .given .line .reader) (a .frame))
     held' f =
         let at : Read = read Command (placeOf (l .reader) frame) x in
-        subst (Short Command) (sym (ap (λ (s : State Books). s .place) (back f) ∙ place-kept l b frame last lasts (at .place) (at .event))) (short-read Command (placeOf (l .reader) frame) x held)
+        subst (Underway Command) (sym (ap (λ (s : State Books). s .place) (back f) ∙ place-kept l b frame last lasts (at .place) (at .event))) (underway-read Command (placeOf (l .reader) frame) x held)
 
     now-listed : listing (t .carried) ≡ listedCall call (a .frame)
     now-listed =
@@ -209,7 +209,7 @@ part-is (x ∷ xs) l b frame last buffer frames lasts room held few = go (isQuie
 
     go : (q : Bool) → isQuiet call ≡ q → either q .hearing .given .count ≤ 217
         → ((l : Line) (b : Books) (frame last buffer : List ℕ) → length frame ≡ 256 → length last ≡ 217 → 217 ≤ length buffer
-        → Short Command (placeOf (l .reader) frame) → hearing l b frame last buffer xs .hearing .given .count ≤ 217
+        → Underway Command (placeOf (l .reader) frame) → hearing l b frame last buffer xs .hearing .given .count ≤ 217
         → Part l b frame last buffer xs (hearing l b frame last buffer xs))
         → Part l b frame last buffer (x ∷ xs) (either q)
     go true e few below =

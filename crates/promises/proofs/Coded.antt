@@ -13,7 +13,7 @@ use Rattle.wire.specs.declared.Kind.the-variants.{Command, Answer}
 use Rattle.reader.specs.Reading.{Place, outside, inside, Event, nothing, brokenFrame, heard, Read, read}
 use Rattle.reader.specs.Fields.{placeOf, readerOf, keptIn}
 use Rattle.reader.proofs.Running.{bytesOf, kept-length}
-use Rattle.reader.proofs.Holding.{Short, short-few, short-read}
+use Rattle.reader.proofs.Holding.{Underway, underway-few, underway-read}
 use Rattle.books.specs.Books.{freshBooks}
 use Rattle.books.specs.declared.Books.{Books}
 use Rattle.answers.proofs.Shown.{shown-short}
@@ -54,7 +54,7 @@ use Rattle.promises.proofs.Sizes.{Sized, turn-fits, answer-length}
 record DeviceOk (l : Line) (b : Books) (frame last : List ℕ) : Type 0 where
   frames : length frame ≡ 256
   lasts : length last ≡ 217
-  short : Short Command (placeOf (l .reader) frame)
+  short : Underway Command (placeOf (l .reader) frame)
   reached : Reached b
 
 -- at most 217 bytes are given back: an answer, or the last one
@@ -109,17 +109,17 @@ module _ (l : Line) (b : Books) (frame last : List ℕ) (ok : DeviceOk l b frame
       back : device.stateOf (after e .given .line) (after e .given .books) (after e .frame) (after e .last) ≡ turned e .state
       back =
           subst (λ z. device.stateOf (after z .given .line) (after z .given .books) (after z .frame) (after z .last) ≡ turned z .state) is
-          (state-back l b frame last (ok .lasts) x (short-few Command (here .place) (ok .short)) (ok .frames) (few-given (at .place) (at .event)))
+          (state-back l b frame last (ok .lasts) x (underway-few Command (here .place) (ok .short)) (ok .frames) (few-given (at .place) (at .event)))
 
-      short-now : Short Command (turned e .state .place)
-      short-now = subst (Short Command) (sym (goes-to (at .place) e)) (short-read Command (here .place) x (ok .short))
+      short-now : Underway Command (turned e .state .place)
+      short-now = subst (Underway Command) (sym (goes-to (at .place) e)) (underway-read Command (here .place) x (ok .short))
 
       ok-after : DeviceOk (after e .given .line) (after e .given .books) (after e .frame) (after e .last)
       ok-after =
           record {
             frames = kept-length frame (turned e .state .place) ∙ ok .frames;
             lasts = last-kept (turned e .gives) (turned e .carried);
-            short = subst (Short Command) (sym (ap (λ (s : line.State Books). s .place) back)) short-now;
+            short = subst (Underway Command) (sym (ap (λ (s : line.State Books). s .place) back)) short-now;
             reached = event-stays here (at .place) e (ok .reached);
           }
 
@@ -150,7 +150,7 @@ module _ (t : till.State) (buffer : List ℕ) (room : 217 ≤ length buffer) whe
   asked l b frame last ok x bytes e call is some =
       record {
         reply = ofDevice buffer (turned l b frame last ok x buffer e);
-        by = asking-byte (subst (λ z. isAsking z ≡ true) (sym is) some) (by-event l b frame last ok x buffer e is room t);
+        by = asking-byte room (subst (λ z. isAsking z ≡ true) (sym is) some) (by-event l b frame last ok x buffer e is room t);
         result = result l b frame last ok x buffer e is room t call;
         ok = ok-after l b frame last ok x buffer e is;
       }
@@ -181,7 +181,7 @@ module _ (t : till.State) (buffer : List ℕ) (room : 217 ≤ length buffer) whe
           record {
             reply = rest .reply;
             by =
-                quiet-byte (ap isAsking is) (by-event l b frame last ok x buffer nothing is room t) refl
+                quiet-byte room (ap isAsking is) (by-event l b frame last ok x buffer nothing is room t)
                 (subst (λ s. PartByTheTable buffer (record { device = s; till = t }) xs
                 (hearing (a nothing .given .line) (a nothing .given .books) (a nothing .frame) (a nothing .last) buffer xs .hearing .taken) (rest .reply))
                 (back l b frame last ok x buffer nothing is) (rest .by));
@@ -269,7 +269,7 @@ bytes-of s z = go (s .pending) z
     go : (p : till.Pending) → Sized p → Bytes (fields.tillOf (record { next = s .next; pending = p }) .slot)
     go till.idle z = tt
     go (till.waits seq code bytes tries outside) z = (omega (arith, z .0), omega arith)
-    go (till.waits seq code bytes tries (inside sum read)) z = (omega (arith, z .0), short-few Answer (inside sum read) (z .1))
+    go (till.waits seq code bytes tries (inside sum read)) z = (omega (arith, z .0), underway-few Answer (inside sum read) (z .1))
 
 framed-length : (array : List ℕ) (p : till.Pending) → length (fields.framed array p) ≡ length array
 framed-length array till.idle = refl

@@ -5,6 +5,7 @@ pub mod Demand1
 pub mod AnyState
 pub mod Rows
 pub mod Sizes
+pub mod Parts
 pub mod Coded
 pub mod Joining
 pub mod Demand2

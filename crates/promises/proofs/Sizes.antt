@@ -11,7 +11,7 @@ use Rattle.wire.specs.Frame.{Message, commandOf, answerOf, frame, counted, bcc,
 use Rattle.wire.specs.Places.{dataCount}
 use Rattle.wire.specs.declared.Kind.the-variants.{Command, Answer}
 use Rattle.reader.specs.Reading.{Place, outside, inside, Event, nothing, brokenFrame, heard, suits, atLast, Standing, broken, beginning, whole, goesOn, grown, message, startsAnew, readOther, read}
-use Rattle.reader.proofs.Holding.{Short, short-read}
+use Rattle.reader.proofs.Holding.{Underway, underway-read}
 use Rattle.reader.proofs.RoundTrip.{frame-size}
 use Rattle.till.specs.Turns as till
 use Rattle.till.specs.declared.Word.the-variants.{TooShort, NotSent}
@@ -24,16 +24,16 @@ Brief nothing = Unit {0}
 Brief brokenFrame = Unit {0}
 Brief (heard m) = length (m .content ++ m .status) ≤ 206
 
-brief-message : (sum : ℕ) (bytes : List ℕ) → Short Answer (inside sum bytes) → length (message Answer bytes .content ++ message Answer bytes .status) ≤ 206
+brief-message : (sum : ℕ) (bytes : List ℕ) → Underway Answer (inside sum bytes) → length (message Answer bytes .content ++ message Answer bytes .status) ≤ 206
 brief-message sum bytes h =
     let n : ℕ = dataCount Answer (getD bytes 0 0) in
     omega (arith, length-append (take n (drop 3 bytes)) (take 6 (drop (4 + n) bytes)), length-take n (drop 3 bytes), length-take 6 (drop (4 + n) bytes), announced bytes h)
   where
-    announced : (bytes : List ℕ) → Short Answer (inside sum bytes) → dataCount Answer (getD bytes 0 0) ≤ 200
+    announced : (bytes : List ℕ) → Underway Answer (inside sum bytes) → dataCount Answer (getD bytes 0 0) ≤ 200
     announced [] h = omega arith
     announced (len ∷ rest) h = omega (arith, h .0)
 
-brief-read : (p : Place) (b : ℕ) → Short Answer p → Brief (read Answer p b .event)
+brief-read : (p : Place) (b : ℕ) → Underway Answer p → Brief (read Answer p b .event)
 brief-read p b h = go (eqb b 0x01)
   where
     anew : (q : Place) → Brief (startsAnew q)
@@ -41,12 +41,12 @@ brief-read p b h = go (eqb b 0x01)
     anew (inside sum []) = tt
     anew (inside sum (x ∷ xs)) = tt
 
-    by : (sum : ℕ) (bytes : List ℕ) → Short Answer (inside sum bytes) → (st : Standing) (next : Place) → Brief (goesOn st next (message Answer bytes) .event)
+    by : (sum : ℕ) (bytes : List ℕ) → Underway Answer (inside sum bytes) → (st : Standing) (next : Place) → Brief (goesOn st next (message Answer bytes) .event)
     by sum bytes s broken next = tt
     by sum bytes s beginning next = tt
     by sum bytes s whole next = brief-message sum bytes s
 
-    other : (q : Place) → Short Answer q → Brief (readOther Answer q b .event)
+    other : (q : Place) → Underway Answer q → Brief (readOther Answer q b .event)
     other outside s = tt
     other (inside sum bytes) s = by sum bytes s (cond (suits Answer sum bytes b) (cond (atLast Answer bytes) whole beginning) broken) (inside (grown Answer sum bytes b) (bytes ++ b ∷ []))
 
@@ -57,7 +57,7 @@ brief-read p b h = go (eqb b 0x01)
 -- what waits at the till end: a frame of 210 bytes at most, and its answer in reading
 abbrev pub Sized : till.Pending → Type 0
 Sized till.idle = Unit {0}
-Sized (till.waits seq code bytes tries place) = (length bytes ≤ 210) × Short Answer place
+Sized (till.waits seq code bytes tries place) = (length bytes ≤ 210) × Underway Answer place
 
 -- and what an event leaves waiting, and puts in the lent buffer
 pub record Fitting-turn (t : till.Turn) : Type 0 where
@@ -75,7 +75,7 @@ meaning : (next seq code : ℕ) (bytes : List ℕ) (tries : ℕ) (place : Place)
     → till.byteMeans seq code place b ≡ x → Fitting-turn (till.onMeaning next seq code bytes tries x)
 meaning next seq code bytes tries place b h till.failed e = failing next seq code bytes tries (h .0)
 meaning next seq code bytes tries place b h (till.goesOn q) e =
-    record { leaves = (h .0, subst (Short Answer) (sym (goes-place seq code place b q e)) (short-read Answer place b (h .1))); puts = omega arith }
+    record { leaves = (h .0, subst (Underway Answer) (sym (goes-place seq code place b q e)) (underway-read Answer place b (h .1))); puts = omega arith }
 meaning next seq code bytes tries place b h (till.answers m) e =
     let brief : length (m .content ++ m .status) ≤ 206 = subst Brief (answers-heard seq code place b m e .hears) (brief-read place b (h .1)) in
     record { leaves = tt; puts = omega (arith, brief) }

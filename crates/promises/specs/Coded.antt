@@ -115,10 +115,10 @@ pub data PartByTheTable (buffer : List ℕ) : Bench → List ℕ → ℕ → Fro
       → PartByTheTable buffer s bytes 0 r
   no-byte : {s : Bench} → 217 ≤ length buffer → PartByTheTable buffer s [] 0 (tells 0 [] buffer (s .device))
   -- the first that isAsking for something ends the call
-  asking-byte : {s : Bench} {byte : ℕ} {bytes : List ℕ} {r : FromDevice} → isAsking (reads (s .device) byte .event) ≡ true
+  asking-byte : {s : Bench} {byte : ℕ} {bytes : List ℕ} {r : FromDevice} → 217 ≤ length buffer → isAsking (reads (s .device) byte .event) ≡ true
       → ByTheTable s (atDevice buffer byte) (fromDevice r) → PartByTheTable buffer s (byte ∷ bytes) 1 r
-  quiet-byte : {s : Bench} {byte taken : ℕ} {bytes : List ℕ} {after r : FromDevice} → isAsking (reads (s .device) byte .event) ≡ false
-      → ByTheTable s (atDevice buffer byte) (fromDevice after) → after .bytes ≡ [] → PartByTheTable buffer (benchAfter s (fromDevice after)) bytes taken r
+  quiet-byte : {s : Bench} {byte taken : ℕ} {bytes : List ℕ} {after r : FromDevice} → 217 ≤ length buffer → isAsking (reads (s .device) byte .event) ≡ false
+      → ByTheTable s (atDevice buffer byte) (fromDevice after) → PartByTheTable buffer (benchAfter s (fromDevice after)) bytes taken r
       → PartByTheTable buffer s (byte ∷ bytes) (taken + 1) r
 
 -- calls one after the other: at both ends as the table leaves them, and on the fields and arrays as the code leaves them
