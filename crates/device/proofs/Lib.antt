@@ -1,3 +1,4 @@
 pub mod Working
 pub mod Turning
+pub mod Parts
 pub mod Listening

@@ -1,12 +1,11 @@
 -- A byte heard on the line and what it asks for, together, are a turn of the device.
 use mathlib.Core.Path.{_≡_, refl, sym, ap, _∙_, subst}
-use mathlib.Core.Bool.{Bool, true, false, cond}
+use mathlib.Core.Bool.{Bool, true, false, cond, false≢true}
 use mathlib.Core.List.{List, [], _∷_, _++_}
 use Prim.Native.Nat.{ℕ, zero, suc, _+_, _-_, _≤_, _<_}
 use native.Mathlib.Omega.{arith}
 use lib.Dec.{eqb}
 use lib.ListN.{length, getD, take, drop}
-use borrow.Author.Tests.{lt-ltb, le-ltb}
 use Rattle.wire.specs.Frame.{Message, commandOf}
 use Rattle.wire.specs.Places.{dataCount}
 use Rattle.wire.specs.declared.Kind.the-variants.{Command}
@@ -15,17 +14,17 @@ use Rattle.reader.specs.Fields.{placeOf, readerOf, keptIn}
 use Rattle.reader.specs.declared.Reader.{Reader}
 use Rattle.books.specs.declared.Books.{Books}
 use Rattle.line.specs.Turns.{was, State, Turn, turn, onEvent, repeats, lastAnswer}
-use Rattle.line.specs.Calls.{beforeOf, isRepeat, callOf, calledOf}
+use Rattle.line.specs.Calls.{beforeOf, isRepeat, isQuiet, callOf, calledOf}
+use Rattle.line.specs.Listening.{frameAfter}
 use Rattle.line.specs.declared.Call.the-variants.{Quiet, Nak, Again, Order}
-use Rattle.line.specs.declared.Called.{Called}
 use Rattle.line.specs.declared.Line.{Line}
 use Rattle.line.specs.declared.Previous.{Previous}
 use Rattle.line.specs.declared.Previous.the-variants.{Nothing, Frame}
 use Rattle.device.specs.Carrying.{carry}
-use Rattle.device.specs.Device.{After, stateOf, taken, notTaken, afterByte}
+use Rattle.device.specs.Device.{stateOf, taken}
 use Rattle.line.specs.declared.Call.{Call}
-use Rattle.device.specs.declared.Given.{Given}
-use Rattle.device.specs.Answering.{answering, orders, gives, responding}
+use Rattle.device.specs.Answering.{answering, orders, gives}
+use Rattle.device.specs.Hearing.{unmoved}
 
 -- a part of a part is a beginning
 take-take : (n c : ℕ) (xs : List ℕ) → take (length (take n (take c xs))) xs ≡ take n (take c xs)
@@ -82,6 +81,12 @@ pub heard-whole : (r : Reader) (frame : List ℕ) (b : ℕ) (m : Message) → re
     → (read Command (placeOf r frame) b .place ≡ outside) × Standing-in frame m
 heard-whole r frame b m e = heard-inside r frame b m (r .inside) (eqb b 0x01) e
 
+pub quiet-is : (c : Call) → isQuiet c ≡ true → c ≡ Quiet
+quiet-is Quiet e = refl
+quiet-is Nak e = absurd (false≢true e)
+quiet-is Again e = absurd (false≢true e)
+quiet-is (Order s c n) e = absurd (false≢true e)
+
 -- the frame before, in the fields and as a state
 pub same-repeat : (p : Previous) (last : List ℕ) (m : Message) → repeats (beforeOf p last) m ≡ isRepeat p (m .seq) (m .code)
 same-repeat Nothing last m = refl
@@ -107,7 +112,7 @@ module _ (l : Line) (b : Books) (frame last buffer : List ℕ) where
       → answering (after-hearing next) b (cond repeat Again (Order (m .seq) (m .code) (length (m .content)))) frame last buffer
       ≡ taken l frame last buffer (cond repeat (againTurn next) (orderTurn next m))
   whole-turn next m true same stands =
-      ap (λ z. gives 6 (after-hearing next) b (lastAnswer (beforeOf (l .previous) last)) z last buffer) (sym same)
+      ap (λ z. gives Again (after-hearing next) b (lastAnswer (beforeOf (l .previous) last)) z last buffer) (sym same)
   whole-turn next m false same stands =
       ap (λ z. orders (after-hearing next) (m .seq) (m .code) (carry b z) frame last buffer) (sym stands)
       ∙ ap (λ z. orders (after-hearing next) (m .seq) (m .code) (carry b m) z last buffer) (sym same)
@@ -122,26 +127,14 @@ module _ (l : Line) (b : Books) (frame last buffer : List ℕ) where
       ∙ whole-turn next m (isRepeat (l .previous) (m .seq) (m .code)) same (k m refl .1)
       ∙ sym (ap (λ z. taken l frame last buffer (cond z (againTurn next) (orderTurn next m))) (same-repeat (l .previous) last m))
 
-  -- the whole byte
-  pub byte-short : (byte : ℕ) → length buffer < 217 → notTaken l b frame last buffer ≡ afterByte l b frame last buffer byte
-  byte-short byte h = rw (lt-ltb (length buffer) 217 h)
-
-  pub byte-taken : (byte : ℕ) (called : Called) (frame' : List ℕ) (a : After) → 217 ≤ length buffer → called ≡ calledOf l frame byte
-      → frame' ≡ keptIn frame (read Command (placeOf (l .reader) frame) byte .place) → a ≡ answering (called .line) b (called .call) frame' last buffer
-      → a ≡ afterByte l b frame last buffer byte
-  byte-taken byte called frame' a room ec ef ea =
+  -- the whole byte: what is heard, then what it asks for
+  pub byte-is : (byte : ℕ) → answering (calledOf l frame byte .line) b (calledOf l frame byte .call) (frameAfter l frame byte) last buffer ≡ taken l frame last buffer (turn carry state byte)
+  byte-is byte =
       let at : Read = read Command (placeOf (l .reader) frame) byte in
-      ea ∙ ap (λ (z : Called). answering (z .line) b (z .call) frame' last buffer) ec
-      ∙ turn-is (at .place) (at .event) (heard-whole (l .reader) frame byte) frame' ef
-      ∙ sym (ap (λ z. cond z (notTaken l b frame last buffer) (taken l frame last buffer (turn carry state byte))) (le-ltb (length buffer) 217 room))
+      turn-is (at .place) (at .event) (heard-whole (l .reader) frame byte) (frameAfter l frame byte) refl
 
--- a call, with the buffer looked at first
-module _ (l : Line) (b : Books) (call : Call) (frame last buffer : List ℕ) where
-  pub respond-short : (g : Given) → g ≡ record { line = l; books = b; number = 7; count = 0 } → length buffer < 217
-      → record { given = g; frame = frame; last = last; buffer = buffer } ≡ responding l b call frame last buffer
-  respond-short g eg h =
-      ap (λ z. record { given = z; frame = frame; last = last; buffer = buffer }) eg
-      ∙ sym (ap (λ z. cond z (notTaken l b frame last buffer) (answering l b call frame last buffer)) (lt-ltb (length buffer) 217 h))
-
-  pub respond-long : (a : After) → a ≡ answering l b call frame last buffer → 217 ≤ length buffer → a ≡ responding l b call frame last buffer
-  respond-long a ea h = ea ∙ sym (ap (λ z. cond z (notTaken l b frame last buffer) (answering l b call frame last buffer)) (le-ltb (length buffer) 217 h))
+  -- a quiet byte moves nothing but reading and the lent frame
+  pub byte-quiet : (byte : ℕ) → isQuiet (calledOf l frame byte .call) ≡ true
+      → unmoved (calledOf l frame byte .line) b (frameAfter l frame byte) last buffer ≡ taken l frame last buffer (turn carry state byte)
+  byte-quiet byte e =
+      ap (λ z. answering (calledOf l frame byte .line) b z (frameAfter l frame byte) last buffer) (sym (quiet-is (calledOf l frame byte .call) e)) ∙ byte-is byte

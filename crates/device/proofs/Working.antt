@@ -83,7 +83,7 @@ module _ (b : Books) (seq code : ℕ) (content : List ℕ) (d : Deed) (ed : d �
   work-bytes l b2 e = e ∙ ap (λ z. sets l 0 (carriedAs b seq code z .answer)) ed
 
 -- parts of a list
-take-all : (n : ℕ) (xs : List ℕ) → length xs ≤ n → take n xs ≡ xs
+pub take-all : (n : ℕ) (xs : List ℕ) → length xs ≤ n → take n xs ≡ xs
 take-all n xs h = sym (append-nil (take n xs)) ∙ ap (λ z. take n xs ++ z) (sym (drop-of-length-le xs h)) ∙ take-append-drop n xs
 
 pub take-min : (n k : ℕ) (xs : List ℕ) → length xs ≤ k → take (min n k) xs ≡ take n xs

@@ -56,12 +56,12 @@ abbrev pub notTaken : Line → Books → List ℕ → List ℕ → List ℕ → 
 notTaken l b frame last buffer =
     record { given = record { line = l; books = b; number = 7; count = 0 }; frame = frame; last = last; buffer = buffer }
 
+-- one byte with a buffer of this length lent: "7: lent buffer too short (device 217)" before all else
+abbrev pub lentTurn : (room : ℕ) → State Books → ℕ → Turn Books
+lentTurn room s byte = cond (ltb room 217) (record { number = 7; gives = []; carried = []; state = s }) (turn carry s byte)
+
 -- one byte: "Order: 7, 5, 6, 2, 1, 3, 4 at the device"
 abbrev pub afterByte : Line → Books → List ℕ → List ℕ → List ℕ → ℕ → After
 afterByte l b frame last buffer byte =
     cond (ltb (length buffer) 217) (notTaken l b frame last buffer)
     (taken l frame last buffer (turn carry (stateOf l b frame last) byte))
-
--- one byte with a buffer of this length lent: "7: lent buffer too short (device 217)" before all else
-abbrev pub lentTurn : (room : ℕ) → State Books → ℕ → Turn Books
-lentTurn room s byte = cond (ltb room 217) (record { number = 7; gives = []; carried = []; state = s }) (turn carry s byte)

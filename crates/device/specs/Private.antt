@@ -21,7 +21,7 @@ use Rattle.device.specs.Recording.{listed}
 use Rattle.device.specs.declared.Work.{Work}
 
 -- the arrays and the buffer, at the lengths they are lent
-pub record Lent (frame last buffer : List ℕ) : Type 0 where
+pub record AtLength (frame last buffer : List ℕ) : Type 0 where
   pub frames : length frame ≡ 256
   pub lasts : length last ≡ 217
   pub room : 217 ≤ length buffer

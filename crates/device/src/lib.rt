@@ -8,17 +8,17 @@ use line::Previous;
 use wire::Built;
 use wire::build;
 ghost use mathlib.Core.Path.{_≡_};
-ghost use Prim.Native.Nat.{_+_, _≤_, min};
+ghost use Prim.Native.Nat.{_+_, _≤_, _<_, min};
 ghost use lib.ListN.{length, take, drop};
 ghost use lib.Seq.{sets};
 ghost use Rattle.wire.specs.Frame.{commandOf};
 ghost use Rattle.line.specs.Turns.{lastAnswer};
 ghost use Rattle.line.specs.Calls.{beforeOf};
 ghost use Rattle.device.specs.Carrying.{deedFor, carry};
-ghost use Rattle.device.specs.Device.{After, afterByte};
 ghost use Rattle.device.specs.Recording.{recording, toldIn};
-ghost use Rattle.device.specs.Answering.{answering, orders, responding};
-ghost use Rattle.device.specs.Private.{Lent, workOf, sizeOf, listedCall};
+ghost use Rattle.device.specs.Answering.{answering, orders};
+ghost use Rattle.device.specs.Hearing.{PartHeard, afterPart};
+ghost use Rattle.device.specs.Private.{AtLength, workOf, sizeOf, listedCall};
 
 // What a byte brought: the device afterwards, the reply number, and how many bytes of the lent buffer are given back.
 pub struct Given {
@@ -49,48 +49,37 @@ pub struct Recorded {
     pub listed: usize,
 }
 
-// One byte. The bytes since 01h stand in `frame`, the last answer in `last`: both are the device's own, as it left them.
-pub fn take_byte(
+// Bytes of a lent part, up to and including the first that asks for something; what it gives back stands in `buf`. The bytes since 01h
+// stand in `frame`, the last answer in `last`: both are the device's own, as it left them. The books move only here, and once a call.
+pub fn hear(
     line: Line,
     books: Books,
     frame: &mut [u8; 256],
     last: &mut [u8; 217],
     buf: &mut [u8],
-    b: u8,
-) -> Given
-    ensures { λ r. ⌜ record { given = r; frame = now (frame .exit); last = now (last .exit); buffer = now (buf .exit) } ≡ afterByte line books (now (frame .entry)) (now (last .entry)) (now (buf .entry)) b ⌝ }
-    ensures { λ r. ⌜ r .count ≤ 217 ⌝ }
+    bytes: &[u8],
+) -> Hearing
+    ensures { λ r. ⌜ record { hearing = r; frame = now (frame .exit); last = now (last .exit); buffer = now (buf .exit) } ≡ afterPart line books (now (frame .entry)) (now (last .entry)) (now (buf .entry)) (now (bytes .entry)) ⌝ }
+    ensures { λ r. ⌜ r .given .count ≤ 217 ⌝ }
+    ensures { λ r. ⌜ r .taken ≤ length (now (bytes .entry)) ⌝ }
+    ensures { λ r. ⌜ (217 ≤ length (now (buf .entry)) → 0 < length (now (bytes .entry)) → 0 < r .taken) ⌝ }
 {
     if buf.len() < 217 {
-        return Given {
-            line,
-            books,
-            number: 7,
-            count: 0,
+        return Hearing {
+            given: gave(line, books, 7, 0),
+            call: Call::Quiet,
+            taken: 0,
         };
     }
-    let called = line::hear(line, frame, b);
-    let next = called.line;
-    let call = called.call;
-    answer_call(next, books, call, &*frame, last, buf)
-}
-
-// What a call asks for: the second half of a byte, for a caller that keeps the books out of the way of every quiet byte.
-pub fn respond(
-    line: Line,
-    books: Books,
-    call: Call,
-    frame: &[u8; 256],
-    last: &mut [u8; 217],
-    buf: &mut [u8],
-) -> Given
-    ensures { λ r. ⌜ record { given = r; frame = now (frame .entry); last = now (last .exit); buffer = now (buf .exit) } ≡ responding line books call (now (frame .entry)) (now (last .entry)) (now (buf .entry)) ⌝ }
-    ensures { λ r. ⌜ r .count ≤ 217 ⌝ }
-{
-    if buf.len() < 217 {
-        return gave(line, books, 7, 0);
+    let listened = line::listen(line, frame, bytes);
+    let next = listened.line;
+    let call = listened.call;
+    let given = answer_call(next, books, call, &*frame, last, buf);
+    Hearing {
+        given,
+        call,
+        taken: listened.taken,
     }
-    answer_call(line, books, call, frame, last, buf)
 }
 
 fn answer_call(
@@ -101,7 +90,7 @@ fn answer_call(
     last: &mut [u8],
     buf: &mut [u8],
 ) -> Given
-    requires { ⌜ Lent (now frame) (now last) (now buf) ⌝ }
+    requires { ⌜ AtLength (now frame) (now last) (now buf) ⌝ }
     ensures { λ r. ⌜ record { given = r; frame = now (frame .entry); last = now (last .exit); buffer = now (buf .exit) } ≡ answering line books call (now (frame .entry)) (now (last .entry)) (now (buf .entry)) ⌝ }
     ensures { λ r. ⌜ r .count ≤ 217 ⌝ }
 {
@@ -170,7 +159,7 @@ fn order(
     last: &mut [u8],
     buf: &mut [u8],
 ) -> Given
-    requires { ⌜ Lent (now frame) (now last) (now buf) ⌝ }
+    requires { ⌜ AtLength (now frame) (now last) (now buf) ⌝ }
     ensures { λ r. ⌜ record { given = r; frame = now (frame .entry); last = now (last .exit); buffer = now (buf .exit) } ≡ orders line seq code (carry books (commandOf seq code (take n (drop 3 (now (frame .entry)))))) (now (frame .entry)) (now (last .entry)) (now (buf .entry)) ⌝ }
     ensures { λ r. ⌜ r .count ≤ 217 ⌝ }
 {
@@ -238,7 +227,7 @@ fn size_of(built: Built) -> usize
 }
 
 // A recorded session, heard by a fresh device that is always lent its 217 bytes. What it gives back goes into `out`, the commands
-// carried out into `orders`, as far as each reaches. The books move only where a byte asks for something.
+// carried out into `orders`, as far as each reaches.
 pub fn hear_all(bytes: &[u8], out: &mut [u8], orders: &mut [u8]) -> Recorded
     ensures { λ r. ⌜ record { recorded = r; out = now (out .exit); orders = now (orders .exit) } ≡ toldIn (now (out .entry)) (now (orders .entry)) (recording (now (bytes .entry))) ⌝ }
 {
@@ -247,30 +236,26 @@ pub fn hear_all(bytes: &[u8], out: &mut [u8], orders: &mut [u8]) -> Recorded
     let mut buf = [0u8; 217];
     let mut line = line::fresh();
     let mut books = books::fresh();
-    let mut given: usize = 0;
+    let mut written: usize = 0;
     let mut listed: usize = 0;
     let mut i = 0;
     while i < bytes.len() {
-        let called = line::hear(line, &mut frame, bytes[i]);
-        let next = called.line;
-        let call = called.call;
-        line = next;
-        i += 1;
-        if line::is_quiet(call) {
-            continue;
-        }
+        let part = &bytes[i..bytes.len()];
+        let heard = hear(line, books, &mut frame, &mut last, &mut buf, part);
+        let given = heard.given;
+        let call = heard.call;
+        let next = given.line;
+        let after = given.books;
+        let count = given.count;
         listed = list_call(call, &frame, orders, listed);
-        let step = answer_call(next, books, call, &frame, &mut last, &mut buf);
-        let after = step.line;
-        let kept = step.books;
-        let count = step.count;
-        line = after;
-        books = kept;
-        given = append(out, given, &buf[0..count]);
+        written = append(out, written, &buf[0..count]);
+        line = next;
+        books = after;
+        i += heard.taken;
     }
     Recorded {
         books,
-        given,
+        given: written,
         listed,
     }
 }

@@ -6,6 +6,7 @@ use Prim.Native.Nat.{ℕ, _+_, _-_, _≤_, _<_}
 use native.Mathlib.Omega.{arith}
 use lib.ListN.{length}
 use borrow.Author.Tests.{eq-eqb, ne-eqb}
+use Rattle.kinds.specs.declared.Command.{Command}
 use Rattle.kinds.specs.declared.Command.the-variants.{OpenText, CloseText, Open, Sell, Close, Cancel, Closing, Drawer}
 use Rattle.kinds.specs.declared.Password.{Password}
 use Rattle.kinds.specs.declared.Sale.{Sale}
@@ -18,57 +19,36 @@ use Rattle.books.specs.Groups.{eight, at, sum}
 use Rattle.books.specs.Sound.{withReceiptOf}
 use Rattle.books.specs.declared.Books.{Books}
 use Rattle.books.specs.declared.Opened.the-variants as opened
-use Rattle.books.specs.declared.Shown.the-variants as shown
 use Rattle.books.proofs.Eight.{at-eight}
-use Rattle.deeds.specs.Deeds.{done, cleared}
+use Rattle.deeds.specs.Deeds.{cleared}
 use Rattle.history.specs.Agrees.{Agrees}
-use Rattle.history.specs.Entries.{Entry, entryOf}
-use Rattle.history.specs.History.{receiptSum, receiptTotal, added, daySum, putIn, takenOut}
+use Rattle.history.specs.Entries.{Entry}
+use Rattle.history.specs.History.{receiptSum, receiptTotal, daySum}
 use Rattle.history.specs.Reached.{Receipted}
 use Rattle.history.proofs.Lists.{set-other, same-eight}
+use Rattle.history.proofs.Keeping.{kept, unchanged, kept-cash, kept-covered, less, kept-receipt, kept-registers, new-receipt}
 use Rattle.history.proofs.Soundness.{zeros}
 use Rattle.history.proofs.Steps.{taken}
 
--- nothing added, and nothing taken off
-pub kept : {x y : ℕ} → x ≡ y → x ≡ y + 0
-kept e = omega (arith, e)
-
-pub unchanged : {x y : ℕ} → x ≡ y → x ≡ y + 0 - 0
-unchanged e = omega (arith, e)
-
-pub kept-cash : (es : List Entry) {c : ℕ} → c ≡ putIn es - takenOut es → c ≡ putIn es + 0 + 0 - (takenOut es + 0)
-kept-cash es e = omega (arith, e)
-
-pub kept-covered : {p t : ℕ} → t ≤ p → t + 0 ≤ p + 0 + 0
-kept-covered h = omega (arith, h)
-
-pub kept-total : (es : List Entry) {x : ℕ} → x ≡ receiptTotal es → x ≡ sum (eight (λ g. receiptSum g es + 0 - 0))
-kept-total es e = e ∙ ap sum (same-eight (λ g. receiptSum g es) (λ g. receiptSum g es + 0 - 0) (λ g lt. unchanged refl))
-
-pub less : {a b c d : ℕ} → a ≡ b → c ≡ d → a - c ≡ b - d
-less e f = rw (e, f)
+-- a command done, whatever its answer shows
+abbrev pub doneWith : Command → List ℕ → Entry
+doneWith c seen = record { command = c; number = 0; shown = seen }
 
 -- the total is the history's, where the groups are
 total-of : (es : List Entry) (r : Receipt) → Receipted r → ((g : ℕ) → g < 8 → at (r .groups) g ≡ receiptSum g es) → r .total ≡ receiptTotal es
 total-of es r h e = h .total ∙ ap sum (same-eight (at (r .groups)) (λ g. receiptSum g es) e)
 
-module _ (es : List Entry) (b : Books) (h : Agrees es b) where
+module _ (es : List Entry) (b : Books) (h : Agrees es b) (seen : List ℕ) where
   -- 38
-  pub text-opened : Agrees (entryOf OpenText (done b shown.All) ∷ es) (withCounters (withReceipt b opened.Text (b .receipt)) (record { all = b .counters .all + 1; fiscal = b .counters .fiscal }))
+  pub text-opened : Agrees (doneWith OpenText seen ∷ es) (withCounters (withReceipt b opened.Text (b .receipt)) (record { all = b .counters .all + 1; fiscal = b .counters .fiscal }))
   text-opened =
       record {
         cash = kept-cash es (h .cash);
         covered = kept-covered (h .covered);
         opened = refl;
-        groups = λ g lt. unchanged (h .groups g lt);
-        total = kept-total es (h .total);
-        paid = kept (h .paid);
-        rest = less (kept-total es (h .total)) (kept (h .paid));
+        receipt = kept-receipt es _ (b .receipt) refl (h .receipt);
         day = λ g lt. kept (h .day g lt);
-        n = kept (h .n);
-        c = kept (h .c);
-        d = kept (h .d);
-        b = kept (h .b);
+        registers = kept-registers es _ (b .registers) refl (λ m. refl) (h .registers);
         put = kept (h .put);
         taken = kept (h .taken);
         all = ap (λ z. z + 1) (h .all);
@@ -78,21 +58,15 @@ module _ (es : List Entry) (b : Books) (h : Agrees es b) where
       }
 
   -- 39
-  pub text-closed : Agrees (entryOf CloseText (done b shown.All) ∷ es) (withReceipt b opened.Nothing (b .receipt))
+  pub text-closed : Agrees (doneWith CloseText seen ∷ es) (withReceipt b opened.Nothing (b .receipt))
   text-closed =
       record {
         cash = kept-cash es (h .cash);
         covered = kept-covered (h .covered);
         opened = refl;
-        groups = λ g lt. unchanged (h .groups g lt);
-        total = kept-total es (h .total);
-        paid = kept (h .paid);
-        rest = less (kept-total es (h .total)) (kept (h .paid));
+        receipt = kept-receipt es _ (b .receipt) refl (h .receipt);
         day = λ g lt. kept (h .day g lt);
-        n = kept (h .n);
-        c = kept (h .c);
-        d = kept (h .d);
-        b = kept (h .b);
+        registers = kept-registers es _ (b .registers) refl (λ m. refl) (h .registers);
         put = kept (h .put);
         taken = kept (h .taken);
         all = kept (h .all);
@@ -103,22 +77,16 @@ module _ (es : List Entry) (b : Books) (h : Agrees es b) where
 
   -- 48
   pub receipt-opened : (op till : ℕ) (p : Password)
-      → Agrees (entryOf (Open op p till) (done b shown.AllAndFiscal) ∷ es)
+      → Agrees (doneWith (Open op p till) seen ∷ es)
       (withCounters (withReceipt b opened.Fiscal emptyReceipt) (record { all = b .counters .all + 1; fiscal = b .counters .fiscal + 1 }))
   receipt-opened op till p =
       record {
         cash = kept-cash es (h .cash);
         covered = kept-covered (h .covered);
         opened = refl;
-        groups = λ g lt. zeros g;
-        total = refl;
-        paid = refl;
-        rest = refl;
+        receipt = new-receipt es _ refl;
         day = λ g lt. kept (h .day g lt);
-        n = kept (h .n);
-        c = kept (h .c);
-        d = kept (h .d);
-        b = kept (h .b);
+        registers = kept-registers es _ (b .registers) refl (λ m. refl) (h .registers);
         put = kept (h .put);
         taken = kept (h .taken);
         all = ap (λ z. z + 1) (h .all);
@@ -128,21 +96,15 @@ module _ (es : List Entry) (b : Books) (h : Agrees es b) where
       }
 
   -- 56
-  pub receipt-closed : Agrees (entryOf Close (done b shown.AllAndFiscal) ∷ es) (withReceipt (withDay b (eight (withReceiptOf b))) opened.Nothing emptyReceipt)
+  pub receipt-closed : Agrees (doneWith Close seen ∷ es) (withReceipt (withDay b (eight (withReceiptOf b))) opened.Nothing emptyReceipt)
   receipt-closed =
       record {
         cash = kept-cash es (h .cash);
         covered = kept-covered (h .covered);
         opened = refl;
-        groups = λ g lt. zeros g;
-        total = refl;
-        paid = refl;
-        rest = refl;
-        day = λ g lt. at-eight (withReceiptOf b) g lt ∙ omega (arith, h .day g lt, h .groups g lt);
-        n = kept (h .n);
-        c = kept (h .c);
-        d = kept (h .d);
-        b = kept (h .b);
+        receipt = new-receipt es _ refl;
+        day = λ g lt. at-eight (withReceiptOf b) g lt ∙ omega (arith, h .day g lt, h .receipt .groups g lt);
+        registers = kept-registers es _ (b .registers) refl (λ m. refl) (h .registers);
         put = kept (h .put);
         taken = kept (h .taken);
         all = kept (h .all);
@@ -152,21 +114,15 @@ module _ (es : List Entry) (b : Books) (h : Agrees es b) where
       }
 
   -- 60
-  pub receipt-cancelled : Agrees (entryOf Cancel (done b shown.Nothing) ∷ es) (withReceipt b opened.Nothing emptyReceipt)
+  pub receipt-cancelled : Agrees (doneWith Cancel seen ∷ es) (withReceipt b opened.Nothing emptyReceipt)
   receipt-cancelled =
       record {
         cash = kept-cash es (h .cash);
         covered = kept-covered (h .covered);
         opened = refl;
-        groups = λ g lt. zeros g;
-        total = refl;
-        paid = refl;
-        rest = refl;
+        receipt = new-receipt es _ refl;
         day = λ g lt. kept (h .day g lt);
-        n = kept (h .n);
-        c = kept (h .c);
-        d = kept (h .d);
-        b = kept (h .b);
+        registers = kept-registers es _ (b .registers) refl (λ m. refl) (h .registers);
         put = kept (h .put);
         taken = kept (h .taken);
         all = kept (h .all);
@@ -176,21 +132,15 @@ module _ (es : List Entry) (b : Books) (h : Agrees es b) where
       }
 
   -- 69
-  pub day-closed : Agrees (entryOf (Closing true) (done b shown.Closure) ∷ es) (cleared b)
+  pub day-closed : Agrees (doneWith (Closing true) seen ∷ es) (cleared b)
   day-closed =
       record {
         cash = kept-cash es (h .cash);
         covered = kept-covered (h .covered);
         opened = h .opened;
-        groups = λ g lt. unchanged (h .groups g lt);
-        total = kept-total es (h .total);
-        paid = kept (h .paid);
-        rest = less (kept-total es (h .total)) (kept (h .paid));
+        receipt = kept-receipt es _ (b .receipt) refl (h .receipt);
         day = λ g lt. zeros g;
-        n = refl;
-        c = refl;
-        d = refl;
-        b = refl;
+        registers = record { n = refl; c = refl; d = refl; b = refl };
         put = refl;
         taken = refl;
         all = refl;
@@ -201,22 +151,16 @@ module _ (es : List Entry) (b : Books) (h : Agrees es b) where
 
   -- 70
   pub put-in : (n : ℕ)
-      → Agrees (entryOf (Drawer (In n)) (done b shown.InDrawer) ∷ es)
+      → Agrees (doneWith (Drawer (In n)) seen ∷ es)
       (withDrawer b (record { cash = b .drawer .cash + n; put = b .drawer .put + n; taken = b .drawer .taken }))
   put-in n =
       record {
         cash = omega (arith, h .cash, h .covered);
         covered = omega (arith, h .covered);
         opened = h .opened;
-        groups = λ g lt. unchanged (h .groups g lt);
-        total = kept-total es (h .total);
-        paid = kept (h .paid);
-        rest = less (kept-total es (h .total)) (kept (h .paid));
+        receipt = kept-receipt es _ (b .receipt) refl (h .receipt);
         day = λ g lt. kept (h .day g lt);
-        n = kept (h .n);
-        c = kept (h .c);
-        d = kept (h .d);
-        b = kept (h .b);
+        registers = kept-registers es _ (b .registers) refl (λ m. refl) (h .registers);
         put = ap (λ z. z + n) (h .put);
         taken = kept (h .taken);
         all = kept (h .all);
@@ -226,22 +170,16 @@ module _ (es : List Entry) (b : Books) (h : Agrees es b) where
       }
 
   pub taken-out : (n : ℕ) → n ≤ b .drawer .cash
-      → Agrees (entryOf (Drawer (Out n)) (done b shown.InDrawer) ∷ es)
+      → Agrees (doneWith (Drawer (Out n)) seen ∷ es)
       (withDrawer b (record { cash = b .drawer .cash - n; put = b .drawer .put; taken = b .drawer .taken + n }))
   taken-out n l =
       record {
         cash = omega (arith, h .cash, h .covered);
         covered = omega (arith, h .cash, h .covered);
         opened = h .opened;
-        groups = λ g lt. unchanged (h .groups g lt);
-        total = kept-total es (h .total);
-        paid = kept (h .paid);
-        rest = less (kept-total es (h .total)) (kept (h .paid));
+        receipt = kept-receipt es _ (b .receipt) refl (h .receipt);
         day = λ g lt. kept (h .day g lt);
-        n = kept (h .n);
-        c = kept (h .c);
-        d = kept (h .d);
-        b = kept (h .b);
+        registers = kept-registers es _ (b .registers) refl (λ m. refl) (h .registers);
         put = kept (h .put);
         taken = ap (λ z. z + n) (h .taken);
         all = kept (h .all);
@@ -255,9 +193,9 @@ line-here : (minus : Bool) (x p f : ℕ) → cond minus (x - p) (x + f) ≡ x + 
 line-here true x p f = omega arith
 line-here false x p f = omega arith
 
-module _ (es : List Entry) (b : Books) (h : Agrees es b) (s : Sale) where
+module _ (es : List Entry) (b : Books) (h : Agrees es b) (seen : List ℕ) (s : Sale) where
   abbrev sale : Entry
-  sale = entryOf (Sell s) (done b shown.Nothing)
+  sale = doneWith (Sell s) seen
 
   -- the group's sum, where the line is in this group, and where not
   abbrev sumIf : ℕ → Bool → ℕ
@@ -265,12 +203,12 @@ module _ (es : List Entry) (b : Books) (h : Agrees es b) (s : Sale) where
 
   here : (g : ℕ) → g < 8 → s .group ≡ g → groupAfter (b .receipt) s ≡ receiptSum g (sale ∷ es)
   here g lt e =
-      ap (λ x. cond (s .minus) (x - productOf s) (x + finishedOf (productOf s) (s .adjust))) (ap (at (b .receipt .groups)) e ∙ h .groups g lt)
+      ap (λ x. cond (s .minus) (x - productOf s) (x + finishedOf (productOf s) (s .adjust))) (ap (at (b .receipt .groups)) e ∙ h .receipt .groups g lt)
       ∙ line-here (s .minus) (receiptSum g es) (productOf s) (finishedOf (productOf s) (s .adjust))
       ∙ sym (ap (sumIf g) (eq-eqb (s .group) g e))
 
   elsewhere : (g : ℕ) → g < 8 → (g ≡ s .group → ⊥) → at (b .receipt .groups) g ≡ receiptSum g (sale ∷ es)
-  elsewhere g lt z = unchanged (h .groups g lt) ∙ sym (ap (sumIf g) (ne-eqb (s .group) g (λ e. z (sym e))))
+  elsewhere g lt z = unchanged (h .receipt .groups g lt) ∙ sym (ap (sumIf g) (ne-eqb (s .group) g (λ e. z (sym e))))
 
   line-groups : length (b .receipt .groups) ≡ 8 → s .group < 8 → (g : ℕ) → g < 8 → at (withLine (b .receipt) s .groups) g ≡ receiptSum g (sale ∷ es)
   line-groups eight-long small =
@@ -286,15 +224,9 @@ module _ (es : List Entry) (b : Books) (h : Agrees es b) (s : Sale) where
         cash = kept-cash es (h .cash);
         covered = kept-covered (h .covered);
         opened = h .opened;
-        groups = groups;
-        total = total;
-        paid = kept (h .paid);
-        rest = less total (kept (h .paid));
+        receipt = record { groups = groups; total = total; lines = ap (λ z. z + 1) (h .receipt .lines); paid = kept (h .receipt .paid); rest = less total (kept (h .receipt .paid)); tried = h .receipt .tried; settled = h .receipt .settled };
         day = λ g lt. kept (h .day g lt);
-        n = kept (h .n);
-        c = kept (h .c);
-        d = kept (h .d);
-        b = kept (h .b);
+        registers = kept-registers es _ (b .registers) refl (λ m. refl) (h .registers);
         put = kept (h .put);
         taken = kept (h .taken);
         all = kept (h .all);

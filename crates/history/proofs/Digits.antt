@@ -1,7 +1,6 @@
 -- In every state that a fresh device can reach, every field shown fits its digits.
 use mathlib.Core.Path.{_≡_}
 use mathlib.Core.Bool.{Bool, true, false, cond}
-use mathlib.Core.List.{List}
 use Prim.Native.Nat.{ℕ, _-_, _^_, _<_}
 use native.Mathlib.Omega.{arith}
 use lib.Dec.{leb}
@@ -17,10 +16,8 @@ use Rattle.deeds.specs.Deeds.{carriedOut}
 use Rattle.deeds.specs.declared.Deed.{Deed}
 use Rattle.deeds.proofs.Judging.{Kept, parts, within-eight, day-within}
 use Rattle.history.specs.Digits.{InDigits, leftOf, isPrice, priced}
-use Rattle.history.specs.Entries.{historyOf}
 use Rattle.history.specs.Reached.{Reached}
 use Rattle.history.proofs.Lists.{group-most}
-use Rattle.history.proofs.Reaching.{every-history-reached}
 use Rattle.history.proofs.Soundness.{DrawerIn, drawer-in, memory-in}
 use Rattle.history.proofs.Steps.{Step, restOf, refused, textOpens, textCloses, prints, opens, sells, subtotals, pays, closes, cancels, sums, clears, reports, looks, puts, takes, status, rates, taken}
 
@@ -57,8 +54,8 @@ none-left : (taxes : Bool) → leftOf (cond taxes shown.Taxes shown.DaySums) < 1
 none-left true = omega arith
 none-left false = omega arith
 
-left-fits : {b : Books} {c : Command} {e : Deed} → Reached b → priced c ≡ true → Step b c e → leftOf (e .shown) < 10 ^ 10
-left-fits {b} h i (pays p o l) =
+pub left-fits : {b : Books} {c : Command} {e : Deed} → Reached b → priced c ≡ true → Step b c e → leftOf (e .shown) < 10 ^ 10
+left-fits {b} h i (pays p o f l) =
     let k : Kept b = parts b (h .fits) in
     let small : restOf b < 10000000000 = omega (arith, k .total) in
     left-small (leb (restOf b) (givenOf (restOf b) (p .tender))) (givenOf (restOf b) (p .tender)) (restOf b) (given-small (restOf b) (p .tender) small i) small
@@ -82,6 +79,3 @@ left-fits h i rates = omega arith
 
 pub rest-and-change-fit : (b : Books) (c : Command) → Reached b → priced c ≡ true → leftOf (carriedOut b c .shown) < 10 ^ 10
 rest-and-change-fit b c h i = left-fits h i (taken b c)
-
-pub every-history-fits : (cs : List Command) → InDigits (historyOf cs .books)
-every-history-fits cs = digits-fit (historyOf cs .books) (every-history-reached cs)

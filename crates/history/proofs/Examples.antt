@@ -2,14 +2,18 @@
 use mathlib.Core.Path.{_≡_, refl}
 use mathlib.Core.Bool.{true, false}
 use mathlib.Core.List.{List, [], _∷_, _++_}
+use Rattle.text.specs.Digits.{digits, number}
 use Rattle.kinds.specs.declared.Adjust.the-variants.{Nothing, PercentLess}
 use Rattle.kinds.specs.declared.Command.{Command}
 use Rattle.kinds.specs.declared.Command.the-variants.{Open, Sell, Pay, Close, Cancel, Closing, Drawer}
-use Rattle.kinds.specs.declared.Mode.the-variants.{Cash}
+use Rattle.kinds.specs.declared.Mode.the-variants.{Cash, N}
 use Rattle.kinds.specs.declared.Service.the-variants.{In, Out}
 use Rattle.kinds.specs.declared.Tender.the-variants.{Amount}
-use Rattle.history.specs.Entries.{Entry, historyOf}
-use Rattle.history.specs.History.{due, putIn, takenOut, daySum, allOpened, closings, memorySum}
+use Rattle.books.specs.Books.{freshBooks}
+use Rattle.books.specs.declared.Books.{Books}
+use Rattle.deeds.specs.Deeds.{carriedOut}
+use Rattle.history.specs.Entries.{Entry, entryOf}
+use Rattle.history.specs.History.{due, linesSold, paymentTried, paidInFull, putIn, takenOut, daySum, allOpened, closings, memorySum}
 
 abbrev openIt : Command
 openIt = Open 1 (record { digits = 4; value = 0 }) 1
@@ -30,26 +34,48 @@ paid = sold ++ Pay (record { mode = Cash; tender = Amount 2000 }) ∷ Close ∷ 
 abbrev day : List Command
 day = paid ++ Drawer (In 500) ∷ Drawer (Out 300) ∷ openIt ∷ Cancel ∷ Closing true ∷ []
 
+-- each carried out on the books that those before it led to
+abbrev on : List Entry → Books → List Command → List Entry
+on es b [] = es
+on es b (c ∷ cs) = on (entryOf b c (carriedOut b c) ∷ es) (carriedOut b c .books) cs
+
 abbrev told : List Command → List Entry
-told cs = historyOf cs .entries
+told cs = on [] freshBooks cs
 
 pub still-due : due (told sold) ≡ 1267
 still-due = refl
 
+pub two-lines : linesSold (told sold) ≡ 2
+two-lines = refl
+
+-- group E is disabled, and N above the rest not permitted: refused with 3, and not counted
+pub no-third-line : linesSold (told (sold ++ Sell (record { group = 4; minus = false; price = 100; quantity = 1000; adjust = Nothing }) ∷ [])) ≡ 2
+no-third-line = refl
+
+pub not-tried : paymentTried (told (sold ++ Pay (record { mode = N; tender = Amount 2000 }) ∷ [])) ≡ false
+not-tried = refl
+
+-- 5.00 of the 12.67 is `D`, 20.00 is `R`
+pub not-in-full : (paymentTried (told (sold ++ Pay (record { mode = Cash; tender = Amount 500 }) ∷ [])) ≡ true)
+    × (paidInFull (told (sold ++ Pay (record { mode = Cash; tender = Amount 500 }) ∷ [])) ≡ false)
+not-in-full = (refl, refl)
+
+pub in-full : paidInFull (told (sold ++ Pay (record { mode = Cash; tender = Amount 2000 }) ∷ [])) ≡ true
+in-full = refl
+
 pub change-left-out : putIn (told paid) ≡ 1267
+unfolding digits number
 change-left-out = refl
 
 pub day-of-B : daySum 1 (told paid) ≡ 1267
 day-of-B = refl
 
 pub put-in : putIn (told day) ≡ 1767
+unfolding digits number
 put-in = refl
 
 pub taken-out : takenOut (told day) ≡ 300
 taken-out = refl
-
-pub cash : historyOf day .books .drawer .cash ≡ 1467
-cash = refl
 
 pub cleared : allOpened (told day) ≡ 0
 cleared = refl

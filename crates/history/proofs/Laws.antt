@@ -4,8 +4,9 @@ use mathlib.Core.Bool.{true}
 use Prim.Native.Nat.{_≤_}
 use native.Mathlib.Omega.{arith}
 use Rattle.kinds.specs.declared.Command.{Command}
-use Rattle.kinds.specs.declared.Command.the-variants.{Sell, Closing}
+use Rattle.kinds.specs.declared.Command.the-variants.{Sell, Closing, Drawer}
 use Rattle.kinds.specs.declared.Sale.{Sale}
+use Rattle.kinds.specs.declared.Service.{Service}
 use Rattle.receipt.specs.Lines.{productOf}
 use Rattle.books.specs.Groups.{at}
 use Rattle.books.specs.declared.Books.{Books}
@@ -23,7 +24,7 @@ refusing prints z = absurd (z refl)
 refusing (opens a) z = absurd (z refl)
 refusing (sells s l) z = absurd (z refl)
 refusing subtotals z = absurd (z refl)
-refusing (pays p o r) z = absurd (z refl)
+refusing (pays p o f r) z = absurd (z refl)
 refusing (closes o f) z = absurd (z refl)
 refusing (cancels o) z = absurd (z refl)
 refusing sums z = absurd (z refl)
@@ -55,3 +56,13 @@ lowering (sells s l) z = l .plain
 -- 49 with `-`: no group falls below zero
 pub a-line-off-is-covered : (b : Books) (s : Sale) → carriedOut b (Sell s) .number ≡ 0 → s .minus ≡ true → productOf s ≤ at (b .receipt .groups) (s .group)
 a-line-off-is-covered b s z = lowering (taken b (Sell s)) z
+
+serving : {b : Books} {s : Service} {d : Deed} → Step b (Drawer s) d → d .number ≡ 0 → d .shown ≡ shown.InDrawer
+serving (refused m h) z = absurd (omega (arith, z))
+serving looks z = refl
+serving (puts n h k) z = refl
+serving (takes n h k) z = refl
+
+-- 70: "Answers `P,Cash,In,Out`"
+pub seventy-shows-the-drawer : (b : Books) (s : Service) → carriedOut b (Drawer s) .number ≡ 0 → carriedOut b (Drawer s) .shown ≡ shown.InDrawer
+seventy-shows-the-drawer b s z = serving (taken b (Drawer s)) z

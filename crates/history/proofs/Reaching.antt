@@ -1,7 +1,6 @@
 -- What holds of the books in every state that a fresh device can reach.
 use mathlib.Core.Path.{_≡_, refl, sym, _∙_}
 use mathlib.Core.Bool.{Bool, true, false, cond, false≢true}
-use mathlib.Core.List.{List, [], _∷_}
 use Prim.Native.Nat.{ℕ, _+_, _-_, _≤_, min}
 use native.Mathlib.Omega.{arith}
 use lib.ListN.{length, set, length-set}
@@ -22,7 +21,6 @@ use Rattle.books.specs.declared.Opened.the-variants.{Nothing, Fiscal, Text}
 use Rattle.deeds.specs.Deeds.{raisedBy, deedOf, carriedOut}
 use Rattle.deeds.specs.declared.Deed.{Deed}
 use Rattle.deeds.proofs.Judging.{kept-done}
-use Rattle.history.specs.Entries.{Past, carriedOn, fresh, historyOf, entryOf}
 use Rattle.history.specs.Reached.{Reached, Receipted}
 use Rattle.history.proofs.Lists.{sum-eight-set}
 use Rattle.history.proofs.Soundness.{fresh-is-sound, step-sound}
@@ -109,9 +107,9 @@ reaching {b} h (sells s l) =
       blank = never (b .opened) (l .isOpen);
     }
 reaching {b} h subtotals = h
-reaching {b} h (pays p o l) =
+reaching {b} h (pays p o f l) =
     raised-reached (withReceipt b (b .opened) (paidOf (b .receipt) (restOf b) (handed b p) .receipt)) (p .mode) (min (handed b p) (restOf b))
-    (step-sound b (h .fits) (pays p o l)) (paid-receipted b (h .receipt) p) (h .eight-sums) (never (b .opened) o)
+    (step-sound b (h .fits) (pays p o f l)) (paid-receipted b (h .receipt) p) (h .eight-sums) (never (b .opened) o)
 reaching {b} h (closes o f) = record { fits = step-sound b (h .fits) (closes o f); receipt = empty-receipted; eight-sums = refl; blank = λ e. refl }
 reaching {b} h (cancels o) =
     record { fits = step-sound b (h .fits) (cancels o); receipt = empty-receipted; eight-sums = h .eight-sums; blank = λ e. refl }
@@ -133,15 +131,6 @@ fresh-reached = record { fits = fresh-is-sound; receipt = empty-receipted; eight
 pub reached-stays : (b : Books) (c : Command) → Reached b → Reached (carriedOut b c .books)
 reached-stays b c h = reaching h (taken b c)
 
--- after any list of commands, from any books of that kind
-pub reached-on : (p : Past) (cs : List Command) → Reached (p .books) → Reached (carriedOn p cs .books)
-reached-on p [] h = h
-reached-on p (c ∷ cs) h =
-    reached-on (record { entries = entryOf c (carriedOut (p .books) c) ∷ p .entries; books = carriedOut (p .books) c .books }) cs (reached-stays (p .books) c h)
-
-pub every-history-reached : (cs : List Command) → Reached (historyOf cs .books)
-every-history-reached cs = reached-on fresh cs fresh-reached
-
--- so a device that was fresh never refuses for books that are not sound
-pub every-command-judged : (cs : List Command) (c : Command) → carriedOut (historyOf cs .books) c ≡ deedOf (historyOf cs .books) c
-every-command-judged cs c = sym (kept-done (historyOf cs .books) (deedOf (historyOf cs .books) c) (every-history-reached cs .fits))
+-- such books are never refused for not being sound
+pub every-command-judged : (b : Books) (c : Command) → Reached b → carriedOut b c ≡ deedOf b c
+every-command-judged b c h = sym (kept-done b (deedOf b c) (h .fits))

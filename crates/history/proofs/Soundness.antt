@@ -245,7 +245,7 @@ module _ (b : Books) (k : Kept b) where
   staying (opens a) = counters-kept (withReceipt b opened.Fiscal emptyReceipt) (receipt-kept b k opened.Fiscal emptyReceipt empty-in (omega arith)) _ (omega (arith, k .fiscal)) (omega arith)
   staying (sells s l) = receipt-kept b k (b .opened) (withLine (b .receipt) s) (line-in b k s l) (l .total)
   staying subtotals = k
-  staying (pays p o h) =
+  staying (pays p o f h) =
       let t = paidOf (b .receipt) (restOf b) (handed b p) .receipt in
       raised-kept (withReceipt b (b .opened) t) (receipt-kept b k (b .opened) t (within-eight (withReceiptOf b) (k .groups)) (k .total)) (p .mode) (min (handed b p) (restOf b))
       (omega (arith, h, same-register b (b .opened) t (p .mode)))

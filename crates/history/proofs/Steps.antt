@@ -54,7 +54,7 @@ pub data Step (b : Books) : Command → Deed → Type 0 where
       (done (withCounters (withReceipt b opened.Fiscal emptyReceipt) (record { all = b .counters .all + 1; fiscal = b .counters .fiscal + 1 })) shown.AllAndFiscal)
   sells : (s : Sale) → Line b s → Step b (Sell s) (done (withReceipt b (b .opened) (withLine (b .receipt) s)) shown.Nothing)
   subtotals : {print show : Bool} → Step b (Subtotal print show) (done b shown.Subtotal)
-  pays : (p : Payment) → fiscalOpen (b .opened) ≡ true → registerOf b (p .mode) + min (handed b p) (restOf b) ≤ 999999999999
+  pays : (p : Payment) → fiscalOpen (b .opened) ≡ true → b .receipt .settled ≡ false → registerOf b (p .mode) + min (handed b p) (restOf b) ≤ 999999999999
       → Step b (Pay p)
       (done (raisedBy (withReceipt b (b .opened) (paidOf (b .receipt) (restOf b) (handed b p) .receipt)) (p .mode) (min (handed b p) (restOf b)))
       (shown.Tendered (leb (restOf b) (handed b p)) (paidOf (b .receipt) (restOf b) (handed b p) .left)))
@@ -147,13 +147,13 @@ module _ (b : Books) where
     over = ltb 999999999999 (registerOf b (p .mode) + min (handed b p) (restOf b))
 
     paying : fiscalOpen (b .opened) ≡ true → Step b (Pay p) (paidAs b (p .mode) (paymentOf (b .receipt) p (registerOf b (p .mode))))
-    paying o = go (b .receipt .settled) (not (isCash (p .mode)) && ltb (restOf b) (handed b p)) over refl
+    paying o = go (b .receipt .settled) (not (isCash (p .mode)) && ltb (restOf b) (handed b p)) over refl refl
       where
-        go : (s a v : Bool) → over ≡ v → Step b (Pay p) (paidAs b (p .mode) (answer s a v))
-        go true a v e = refused 2 (omega arith)
-        go false true v e = refused 2 (omega arith)
-        go false false true e = refused 3 (omega arith)
-        go false false false e = pays p o (ltb-false 999999999999 (registerOf b (p .mode) + min (handed b p) (restOf b)) e)
+        go : (s a v : Bool) → b .receipt .settled ≡ s → over ≡ v → Step b (Pay p) (paidAs b (p .mode) (answer s a v))
+        go true a v f e = refused 2 (omega arith)
+        go false true v f e = refused 2 (omega arith)
+        go false false true f e = refused 3 (omega arith)
+        go false false false f e = pays p o f (ltb-false 999999999999 (registerOf b (p .mode) + min (handed b p) (restOf b)) e)
 
   -- 60
   cancelling : fiscalOpen (b .opened) ≡ true → Step b Cancel (cancelledAs b (cancelOf (b .receipt)))

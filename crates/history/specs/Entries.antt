@@ -1,44 +1,26 @@
 -- The commands a device has carried out, each with its reply: what the figures of the history are told from.
 use Prim.Native.Nat.{ℕ, zero, suc}
 use mathlib.Core.Bool.{Bool, true, false, _&&_}
-use mathlib.Core.List.{List, [], _∷_}
+use mathlib.Core.List.{List}
 use lib.Dec.{eqb}
 use Rattle.kinds.specs.declared.Command.{Command}
 use Rattle.kinds.specs.declared.Command.the-variants.{OpenText, CloseText, PrintText, Open, Sell, Subtotal, Pay, Close, Cancel, Sums, Closing, Drawer, Status, Rates}
 use Rattle.kinds.specs.declared.Payment.{Payment}
 use Rattle.kinds.specs.declared.Sale.{Sale}
 use Rattle.kinds.specs.declared.Service.{Service}
-use Rattle.books.specs.Books.{freshBooks}
 use Rattle.books.specs.declared.Books.{Books}
-use Rattle.books.specs.declared.Shown.{Shown}
-use Rattle.deeds.specs.Deeds.{carriedOut}
+use Rattle.answers.specs.Contents.{contentOf}
 use Rattle.deeds.specs.declared.Deed.{Deed}
 
--- a command carried out, its reply number, and what its answer shows
+-- a command carried out, its reply number, and the data of its answer, byte for byte
 pub record Entry : Type 0 where
   pub command : Command
   pub number : ℕ
-  pub shown : Shown
+  pub shown : List ℕ
 
-abbrev pub entryOf : Command → Deed → Entry
-entryOf c d = record { command = c; number = d .number; shown = d .shown }
-
--- all that was carried out, newest first, and the books it led to
-pub record Past : Type 0 where
-  pub entries : List Entry
-  pub books : Books
-
--- commands carried out one after the other, in the order of their arrival
-abbrev pub carriedOn : Past → List Command → Past
-carriedOn p [] = p
-carriedOn p (c ∷ cs) =
-    carriedOn (record { entries = entryOf c (carriedOut (p .books) c) ∷ p .entries; books = carriedOut (p .books) c .books }) cs
-
-abbrev pub fresh : Past
-fresh = record { entries = []; books = freshBooks }
-
-abbrev pub historyOf : List Command → Past
-historyOf cs = carriedOn fresh cs
+-- a deed on these books, as its answer tells it
+abbrev pub entryOf : Books → Command → Deed → Entry
+entryOf b c d = record { command = c; number = d .number; shown = contentOf (d .shown) (b .day) (d .books) }
 
 -- "0 done"
 abbrev pub isDone : ℕ → Bool

@@ -4,6 +4,8 @@ use Prim.Native.Nat.{ℕ, _+_, _-_}
 use mathlib.Core.Bool.{Bool, true, false, cond, not, _&&_, _||_}
 use mathlib.Core.List.{List, [], _∷_}
 use lib.Dec.{eqb}
+use lib.ListN.{drop}
+use Rattle.text.specs.Digits.{number}
 use Rattle.kinds.specs.declared.Mode.{Mode}
 use Rattle.kinds.specs.declared.Mode.the-variants.{Cash, N, C, D, B}
 use Rattle.kinds.specs.declared.Service.{Service}
@@ -13,8 +15,6 @@ use Rattle.receipt.specs.Receipts.{givenOf}
 use Rattle.books.specs.Groups.{eight, sum}
 use Rattle.books.specs.declared.Opened.{Opened}
 use Rattle.books.specs.declared.Opened.the-variants.{Nothing, Fiscal, Text}
-use Rattle.books.specs.declared.Shown.{Shown}
-use Rattle.books.specs.declared.Shown.the-variants as shown
 use Rattle.history.specs.Entries.{Entry, isDone, did, ofSale, ofPayment, ofClosing, ofService}
 
 -- 69 with 0: "0 closes the day, 2 only reports"
@@ -52,19 +52,28 @@ module _ (g : ℕ) where
 abbrev pub receiptTotal : List Entry → ℕ
 receiptTotal es = sum (eight (λ g. receiptSum g es))
 
--- 53: "`R` and the change"
-abbrev pub changeOf : Shown → ℕ
-changeOf shown.Nothing = 0
-changeOf shown.All = 0
-changeOf shown.AllAndFiscal = 0
-changeOf shown.Subtotal = 0
-changeOf (shown.Tendered full left) = cond full left 0
-changeOf shown.DaySums = 0
-changeOf shown.Taxes = 0
-changeOf shown.Closure = 0
-changeOf shown.InDrawer = 0
-changeOf shown.Status = 0
-changeOf shown.Rates = 0
+-- how many lines stand on the receipt, "minus ones counted"
+abbrev pub linesSold : List Entry → ℕ
+linesSold [] = 0
+linesSold (e ∷ es) = cond (begins e) 0 (linesSold es + once (did 49 e))
+
+-- 53: "`D` and the rest, or `R` and the change", read from the answer's data
+abbrev pub saysR : List ℕ → Bool
+saysR [] = false
+saysR (letter ∷ sum) = eqb letter 0x52
+
+abbrev pub changeOf : List ℕ → ℕ
+changeOf shown = cond (saysR shown) (number 0 (drop 1 shown)) 0
+
+-- 49 and 60: "53 already done", "no 53 done"
+abbrev pub paymentTried : List Entry → Bool
+paymentTried [] = false
+paymentTried (e ∷ es) = cond (begins e) false (did 53 e || paymentTried es)
+
+-- "Only an `R` makes a receipt paid in full"
+abbrev pub paidInFull : List Entry → Bool
+paidInFull [] = false
+paidInFull (e ∷ es) = cond (begins e) false (did 53 e && saysR (e .shown) || paidInFull es)
 
 -- the modes told apart
 abbrev pub place : Mode → ℕ

@@ -56,7 +56,7 @@ fn seq(n: u64) -> u8 {
     0x22
 }
 
-// A command, as the device hears it: its frame byte by byte.
+// A command, as the device hears it: its whole frame. The bytes given back are not looked at.
 fn send(
     line: Line,
     books: Books,
@@ -66,42 +66,24 @@ fn send(
     code: u8,
     content: &[u8],
 ) -> Given {
+    let mut buf = [0u8; 217];
     let mut sent = [0u8; 210];
     let built = wire::build::build_command(&mut sent, seq, code, content);
     let n = size_of(built);
     if 210 < n {
-        return hear(line, books, frame, last, b"");
+        return not_sent(line, books);
     }
-    hear(line, books, frame, last, &sent[0..n])
+    let heard = device::hear(line, books, frame, last, &mut buf, &sent[0..n]);
+    heard.given
 }
 
-fn hear(
-    line: Line,
-    books: Books,
-    frame: &mut [u8; 256],
-    last: &mut [u8; 217],
-    bytes: &[u8],
-) -> Given {
-    let mut given = Given {
+fn not_sent(line: Line, books: Books) -> Given {
+    Given {
         line,
         books,
-        number: 0,
+        number: 8,
         count: 0,
-    };
-    let mut i = 0;
-    while i < bytes.len() {
-        let l = given.line;
-        let b = given.books;
-        given = take(l, b, frame, last, bytes[i]);
-        i += 1;
     }
-    given
-}
-
-// The bytes given back are not looked at.
-fn take(line: Line, books: Books, frame: &mut [u8; 256], last: &mut [u8; 217], b: u8) -> Given {
-    let mut buf = [0u8; 217];
-    device::take_byte(line, books, frame, last, &mut buf, b)
 }
 
 // Command 42 with n data bytes.

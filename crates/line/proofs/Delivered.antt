@@ -13,13 +13,13 @@ use Rattle.wire.proofs.Suits.{both}
 use Rattle.reader.specs.Reading.{Event, nothing, brokenFrame, heard, run}
 use Rattle.line.specs.Turns.{Before, none, was, State, Carried, Turn, Session, switchedOn, repeats, lastAnswer, session}
 use Rattle.tries.specs.Tries.{Arrival, whole, replaced, cut, mayArrive, arriving, Begun, clear, begun, leaves, startBrings, lostStartBrings, damageBrings, brings}
-use Rattle.line.specs.Delivery.{isWhole, Sent, all, any, tried, differ, differsFrom, delivery, commands, triesArriving, allArriving, triesLeave, given, heardIn, carriedIn, carryAll, TriesBring, AllBring}
+use Rattle.line.specs.Delivery.{isWhole, Sent, all, any, tried, differ, differsFrom, delivery, commands, triesArriving, allArriving, triesLeave, givenBack, heardIn, carriedIn, carryAll, TriesBring, AllBring}
 use Rattle.tries.specs.TryRead.{news, standsAt, Fits}
 use Rattle.tries.proofs.Trying.{try-read}
 use Rattle.line.proofs.Sessions.{device, Reaction, endingAt, behind, session-append, session-news, frame-again, frame-new, reacts}
 
 -- a command is its own repeat
-same : (m : Message) → eqb (m .seq) (m .seq) && eqb (m .code) (m .code) ≡ true
+pub same : (m : Message) → eqb (m .seq) (m .seq) && eqb (m .code) (m .code) ≡ true
 same m = rw (eq-eqb (m .seq) (m .seq) refl, eq-eqb (m .code) (m .code) refl)
 
 or-more : (d h r : Bool) → d || r ≡ true → (d || h) || r ≡ true
@@ -32,6 +32,19 @@ once : (m : Message) (d h : Bool) → carriedIn m d h ++ carriedIn m (d || h) tr
 once m true h = refl
 once m false true = refl
 once m false false = refl
+
+-- the first command is no repeat of the frame before
+abbrev pub New : Before → List Sent → Type 0
+New before [] = Unit {0}
+New before (c ∷ cs) = repeats before (c .command) ≡ false
+
+pub new-next : (m : Message) (answer : List ℕ) (cs : List Sent) → differsFrom m cs ≡ true → New (was (m .seq) (m .code) answer) cs
+new-next m answer [] e = tt
+new-next m answer (c ∷ cs) e = not-true (eqb (m .seq) (c .command .seq) && eqb (m .code) (c .command .code)) e
+
+pub new-none : (cs : List Sent) → New none cs
+new-none [] = tt
+new-none (c ∷ cs) = refl
 
 module _ {B : Type 0} (carry : B → Message → Carried B) where
   -- any try, at any device: what it brings, answered
@@ -74,7 +87,7 @@ module _ {B : Type 0} (carry : B → Message → Carried B) where
     -- what such events bring
     abbrev Told : Bool → List Event → Reaction B
     Told done es = record {
-      gives = given m (lastAnswer first) answer es;
+      gives = givenBack m (lastAnswer first) answer es;
       carried = carriedIn m done (heardIn m es);
       before = beforeAt (done || heardIn m es);
       books = booksAt (done || heardIn m es);
@@ -83,7 +96,7 @@ module _ {B : Type 0} (carry : B → Message → Carried B) where
     -- with one frame more in front, of another command or of this one
     abbrev ToldWith : (another done : Bool) → List Event → Reaction B
     ToldWith another done es = record {
-      gives = cond another (lastAnswer first) answer ++ given m (lastAnswer first) answer es;
+      gives = cond another (lastAnswer first) answer ++ givenBack m (lastAnswer first) answer es;
       carried = carriedIn m done (not another || heardIn m es);
       before = beforeAt (done || (not another || heardIn m es));
       books = booksAt (done || (not another || heardIn m es));
@@ -222,19 +235,6 @@ module _ {B : Type 0} (carry : B → Message → Carried B) where
           left = o .left;
         }
 
-  -- the first command is no repeat of the frame before
-  abbrev New : Before → List Sent → Type 0
-  New before [] = Unit {0}
-  New before (c ∷ cs) = repeats before (c .command) ≡ false
-
-  new-next : (m : Message) (answer : List ℕ) (cs : List Sent) → differsFrom m cs ≡ true → New (was (m .seq) (m .code) answer) cs
-  new-next m answer [] e = tt
-  new-next m answer (c ∷ cs) e = not-true (eqb (m .seq) (c .command .seq) && eqb (m .code) (c .command .code)) e
-
-  new-none : (cs : List Sent) → New none cs
-  new-none [] = tt
-  new-none (c ∷ cs) = refl
-
   -- what stands begun between two commands is the frame before
   abbrev Left : Before → List Sent → Begun → Type 0
   Left before cs clear = Unit {0}
@@ -300,12 +300,12 @@ module _ {B : Type 0} (carry : B → Message → Carried B) where
   brings-for-each-try cs e books = delivered cs e books .bring
 
 -- a device that does nothing but hear
-abbrev idle : Unit {0} → Message → Carried (Unit {0})
-idle books m = record { number = 0; books = tt; answer = [] }
+abbrev pub hearsOnly : Unit {0} → Message → Carried (Unit {0})
+hearsOnly books m = record { number = 0; books = tt; answer = [] }
 
 -- "So two different lists never arrive as the same bytes."
 pub same-bytes-same-list : (cs ds : List Sent) → delivery cs ≡ true → delivery ds ≡ true → allArriving cs ≡ allArriving ds → commands cs ≡ commands ds
 same-bytes-same-list cs ds ec ed e =
-    sym (carries-out-that-very-list idle cs ec tt .0)
-    ∙ ap (λ bs. session idle (switchedOn tt) bs .carried) e
-    ∙ carries-out-that-very-list idle ds ed tt .0
+    sym (carries-out-that-very-list hearsOnly cs ec tt .0)
+    ∙ ap (λ bs. session hearsOnly (switchedOn tt) bs .carried) e
+    ∙ carries-out-that-very-list hearsOnly ds ed tt .0

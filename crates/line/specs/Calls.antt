@@ -3,14 +3,15 @@ use Prim.Native.Nat.{ℕ}
 use mathlib.Core.Bool.{Bool, true, false, cond, _&&_}
 use mathlib.Core.List.{List}
 use lib.Dec.{eqb}
-use lib.ListN.{length, take}
+use lib.ListN.{take}
 use Rattle.wire.specs.declared.Kind.the-variants.{Command}
-use Rattle.reader.specs.Reading.{Event, nothing, brokenFrame, heard, read}
-use Rattle.reader.specs.Fields.{placeOf, readerOf}
+use Rattle.reader.specs.Reading.{Event, read}
+use Rattle.reader.specs.Fields.{placeOf, readerOf, heardOf}
+use Rattle.reader.specs.declared.Heard.{Heard}
+use Rattle.reader.specs.declared.Heard.the-variants as heards
 use Rattle.line.specs.Turns.{Before, none, was}
 use Rattle.line.specs.declared.Call.{Call}
 use Rattle.line.specs.declared.Call.the-variants.{Quiet, Nak, Again, Order}
-use Rattle.line.specs.declared.Called.{Called}
 use Rattle.line.specs.declared.Line.{Line}
 use Rattle.line.specs.declared.Previous.{Previous}
 use Rattle.line.specs.declared.Previous.the-variants.{Nothing, Frame}
@@ -25,12 +26,27 @@ abbrev pub isRepeat : Previous → ℕ → ℕ → Bool
 isRepeat Nothing seq code = false
 isRepeat (Frame s c count) seq code = eqb s seq && eqb c code
 
+-- document 01's number of each call, and its values: 0 (byte taken), 5 (broken frame), 6 (repeat); an order has the number that carrying it out gives
+abbrev pub callNumber : Call → (carried : ℕ) → ℕ
+callNumber Quiet carried = 0
+callNumber Nak carried = 5
+callNumber Again carried = 6
+callNumber (Order seq code count) carried = carried
+
+-- what reading brings asks for nothing (0), NAK (5), the last answer again (6), or is a command to carry out
+abbrev pub callFor : Previous → Heard → Call
+callFor p heards.Nothing = Quiet
+callFor p heards.Broken = Nak
+callFor p (heards.Whole seq code count) = cond (isRepeat p seq code) Again (Order seq code count)
+
 abbrev pub callOf : Previous → Event → Call
-callOf p nothing = Quiet
-callOf p brokenFrame = Nak
-callOf p (heard m) = cond (isRepeat p (m .seq) (m .code)) Again (Order (m .seq) (m .code) (length (m .content)))
+callOf p e = callFor p (heardOf e)
 
 -- one byte heard on the line
+pub record Called : Type 0 where
+  pub line : Line
+  pub call : Call
+
 abbrev pub calledOf : Line → List ℕ → ℕ → Called
 calledOf l frame b =
     let step = read Command (placeOf (l .reader) frame) b in
@@ -42,3 +58,9 @@ isQuiet Quiet = true
 isQuiet Nak = false
 isQuiet Again = false
 isQuiet (Order seq code n) = false
+
+-- a byte that brings nothing
+abbrev pub isSilent : Heard → Bool
+isSilent heards.Nothing = true
+isSilent heards.Broken = false
+isSilent (heards.Whole seq code count) = false

@@ -31,9 +31,13 @@ abbrev pub any : (Arrival → Bool) → List Arrival → Bool
 any test [] = false
 any test (a ∷ rest) = test a || any test rest
 
+-- PROTOCOL 9.1: a command that can be sent, each try of it in one of the ways of `Arrival`; there may be none
+abbrev pub mayCome : Sent → Bool
+mayCome c = sendable Command (c .command) && all (mayArrive (frame Command (c .command))) (c .tries)
+
 -- "Each is tried one or more times with one and the same frame; .. at least one whole"
 abbrev pub tried : Sent → Bool
-tried c = sendable Command (c .command) && all (mayArrive (frame Command (c .command))) (c .tries) && any isWhole (c .tries)
+tried c = mayCome c && any isWhole (c .tries)
 
 -- "neighbours differing in sequence number or code"
 abbrev pub differ : Message → Message → Bool
@@ -67,11 +71,11 @@ triesLeave b m (a ∷ rest) = triesLeave (leaves Command b m a) m rest
 
 -- PROTOCOL 9.4: what is given back for what a try of m brings: NAK (15h) for a broken frame; for a frame heard its answer, that of m, or that
 -- of the command before m once more
-abbrev pub given : Message → (last answer : List ℕ) → List Event → List ℕ
-given m last answer [] = []
-given m last answer (nothing ∷ es) = given m last answer es
-given m last answer (brokenFrame ∷ es) = 0x15 ∷ given m last answer es
-given m last answer (heard n ∷ es) = cond (differ n m) last answer ++ given m last answer es
+abbrev pub givenBack : Message → (last answer : List ℕ) → List Event → List ℕ
+givenBack m last answer [] = []
+givenBack m last answer (nothing ∷ es) = givenBack m last answer es
+givenBack m last answer (brokenFrame ∷ es) = 0x15 ∷ givenBack m last answer es
+givenBack m last answer (heard n ∷ es) = cond (differ n m) last answer ++ givenBack m last answer es
 
 -- whether m itself is heard
 abbrev pub heardIn : Message → List Event → Bool
@@ -92,7 +96,7 @@ module _ {B : Type 0} (carry : B → Message → Carried B) where
 
   -- one try of m: what is given back during it, and whether m is carried out with it; `done` says whether it was before
   pub record TryBrings (s : State B) (m : Message) (done : Bool) (last answer : List ℕ) (a : Arrival) (brought : List Event) : Type 0 where
-    pub gives : session carry s (arriving (frame Command m) a) .gives ≡ given m last answer brought
+    pub gives : session carry s (arriving (frame Command m) a) .gives ≡ givenBack m last answer brought
     pub carried : session carry s (arriving (frame Command m) a) .carried ≡ carriedIn m done (heardIn m brought)
 
   -- the tries of one command, one after the other, from what stands begun

@@ -1,12 +1,12 @@
-// The line: what one byte asks of the device. It moves a few scalars; the books are not touched.
+// The line: what bytes ask of the device. A quiet byte moves a few scalars; the frame before and the books are not touched.
 use reader::Heard;
 use reader::Reader;
 use wire::Kind;
 ghost use mathlib.Core.Path.{_≡_};
-ghost use Rattle.wire.specs.declared.Kind.the-variants.{Command};
-ghost use Rattle.reader.specs.Reading.{read, outside};
-ghost use Rattle.reader.specs.Fields.{placeOf, readerOf, keptIn};
-ghost use Rattle.line.specs.Calls.{isRepeat, isQuiet, calledOf};
+ghost use Rattle.reader.specs.Reading.{outside};
+ghost use Rattle.reader.specs.Fields.{readerOf};
+ghost use Rattle.line.specs.Calls.{isRepeat, isSilent, callFor};
+ghost use Rattle.line.specs.Listening.{listenedTo, frameBehind};
 ghost use Rattle.line.specs.declared.Previous.the-variants.{Nothing};
 
 // The whole frame before. Its answer is the first `count` bytes of a lent array.
@@ -28,9 +28,11 @@ pub enum Call {
     Order { seq: u8, code: u8, count: usize },
 }
 
-pub struct Called {
+// Bytes of a lent part, up to and including the first that asks for something: what it asks, and how many they were.
+pub struct Listened {
     pub line: Line,
     pub call: Call,
+    pub taken: usize,
 }
 
 pub fn fresh() -> Line
@@ -43,32 +45,47 @@ pub fn fresh() -> Line
     }
 }
 
-pub fn hear(line: Line, frame: &mut [u8; 256], b: u8) -> Called
-    ensures { λ r. ⌜ r ≡ calledOf line (now (frame .entry)) b ⌝ }
-    ensures { λ r. ⌜ now (frame .exit) ≡ keptIn (now (frame .entry)) (read Command (placeOf (line .reader) (now (frame .entry))) b .place) ⌝ }
+pub fn listen(line: Line, frame: &mut [u8; 256], bytes: &[u8]) -> Listened
+    ensures { λ r. ⌜ r ≡ listenedTo line (now (frame .entry)) (now (bytes .entry)) ⌝ }
+    ensures { λ r. ⌜ now (frame .exit) ≡ frameBehind line (now (frame .entry)) (now (bytes .entry)) ⌝ }
 {
-    let before = line.reader;
     let previous = line.previous;
-    let taken = reader::take_byte(Kind::Command, before, frame, b);
-    let reader = taken.reader;
-    let heard = taken.heard;
-    let next = Line { reader, previous };
-    match heard {
-        Heard::Nothing => asks(next, Call::Quiet),
-        Heard::Broken => asks(next, Call::Nak),
-        Heard::Whole { seq, code, count } => {
-            if is_repeat(previous, seq, code) {
-                return asks(next, Call::Again);
-            }
-            asks(next, Call::Order { seq, code, count })
+    let mut reader = line.reader;
+    let mut i = 0;
+    while i < bytes.len() {
+        let taken = reader::take_byte(Kind::Command, reader, frame, bytes[i]);
+        let next = taken.reader;
+        let heard = taken.heard;
+        reader = next;
+        i += 1;
+        if !is_silent(heard) {
+            return asks(reader, previous, heard, i);
         }
     }
+    asks(reader, previous, Heard::Nothing, i)
 }
 
-fn asks(line: Line, call: Call) -> Called
-    ensures { λ r. ⌜ r ≡ record { line = line; call = call } ⌝ }
+fn asks(reader: Reader, previous: Previous, heard: Heard, taken: usize) -> Listened
+    ensures { λ r. ⌜ r ≡ record { line = record { reader = reader; previous = previous }; call = callFor previous heard; taken = taken } ⌝ }
 {
-    Called { line, call }
+    let call = call_for(previous, heard);
+    let line = Line { reader, previous };
+    Listened { line, call, taken }
+}
+
+fn call_for(previous: Previous, heard: Heard) -> Call
+    ensures { λ r. ⌜ r ≡ callFor previous heard ⌝ }
+{
+    match heard {
+        Heard::Nothing => Call::Quiet,
+        Heard::Broken => Call::Nak,
+        Heard::Whole { seq, code, count } => {
+            if is_repeat(previous, seq, code) {
+                return Call::Again;
+            }
+            Call::Order { seq, code, count }
+        }
+    }
 }
 
 fn is_repeat(p: Previous, seq: u8, code: u8) -> bool
@@ -89,14 +106,13 @@ fn is_repeat(p: Previous, seq: u8, code: u8) -> bool
     }
 }
 
-pub fn is_quiet(call: Call) -> bool
-    ensures { λ r. ⌜ r ≡ isQuiet call ⌝ }
+fn is_silent(heard: Heard) -> bool
+    ensures { λ r. ⌜ r ≡ isSilent heard ⌝ }
 {
-    match call {
-        Call::Quiet => true,
-        Call::Nak => false,
-        Call::Again => false,
-        Call::Order {
+    match heard {
+        Heard::Nothing => true,
+        Heard::Broken => false,
+        Heard::Whole {
             seq: _,
             code: _,
             count: _,

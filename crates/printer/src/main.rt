@@ -2,10 +2,12 @@
 // is there.
 use books::Books;
 use device::Given;
+use device::Hearing;
 use libc::STDIN_FILENO;
 use libc::STDOUT_FILENO;
-use line::Call;
 use line::Line;
+ghost use Prim.Native.Nat.{_≤_, _<_};
+ghost use lib.ListN.{length};
 
 fn main() {
     let mut frame = [0u8; 256];
@@ -19,11 +21,11 @@ fn main() {
         if n == 0 {
             return;
         }
-        let given = hear(line, books, &mut frame, &mut last, &chunk, n);
-        let l = given.line;
-        let b = given.books;
-        line = l;
-        books = b;
+        let given = answer(line, books, &mut frame, &mut last, &chunk, n);
+        let next = given.line;
+        let after = given.books;
+        line = next;
+        books = after;
         turns -= 1;
     }
 }
@@ -34,8 +36,8 @@ fn some(chunk: &mut [u8]) -> usize {
     io::count(got, &*chunk)
 }
 
-// The first n bytes of a chunk. The books move only where a byte asks for something.
-fn hear(
+// The first n bytes of a chunk, call by call.
+fn answer(
     line: Line,
     books: Books,
     frame: &mut [u8; 256],
@@ -47,24 +49,37 @@ fn hear(
     let mut kept = books;
     let mut i = 0;
     while i < n {
-        if chunk.len() <= i {
+        if chunk.len() < n {
             return so_far(at, kept);
         }
-        let called = line::hear(at, frame, chunk[i]);
-        let next = called.line;
-        let call = called.call;
+        let heard = call(at, kept, frame, last, &chunk[i..n]);
+        let given = heard.given;
+        let next = given.line;
+        let after = given.books;
         at = next;
-        i += 1;
-        if line::is_quiet(call) {
-            continue;
-        }
-        let answered = answer(next, kept, call, &*frame, last);
-        let l = answered.line;
-        let b = answered.books;
-        at = l;
-        kept = b;
+        kept = after;
+        i += heard.taken;
     }
     so_far(at, kept)
+}
+
+// One call, and what it gives back written out at once.
+fn call(
+    line: Line,
+    books: Books,
+    frame: &mut [u8; 256],
+    last: &mut [u8; 217],
+    bytes: &[u8],
+) -> Hearing
+    ensures { λ r. ⌜ r .taken ≤ length (now (bytes .entry)) ⌝ }
+    ensures { λ r. ⌜ (0 < length (now (bytes .entry)) → 0 < r .taken) ⌝ }
+{
+    let mut buf = [0u8; 217];
+    let heard = device::hear(line, books, frame, last, &mut buf, bytes);
+    let given = heard.given;
+    let count = given.count;
+    io::write_all(STDOUT_FILENO, &buf[0..count]);
+    heard
 }
 
 fn so_far(line: Line, books: Books) -> Given {
@@ -74,15 +89,4 @@ fn so_far(line: Line, books: Books) -> Given {
         number: 0,
         count: 0,
     }
-}
-
-// What a byte asks for, written out at once.
-fn answer(line: Line, books: Books, call: Call, frame: &[u8; 256], last: &mut [u8; 217]) -> Given {
-    let mut buf = [0u8; 217];
-    let given = device::respond(line, books, call, frame, last, &mut buf);
-    let count = given.count;
-    if count <= 217 {
-        io::write_all(STDOUT_FILENO, &buf[0..count]);
-    }
-    given
 }

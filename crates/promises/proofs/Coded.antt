@@ -5,17 +5,17 @@ use native.Mathlib.Omega.{arith}
 use Rattle.history.proofs.Reaching.{fresh-reached}
 use Rattle.promises.specs.Demand1.{freshBench}
 use Rattle.promises.specs.Ends.{ofTill}
-use Rattle.promises.specs.Coded.{Handed, Fresh, benchOf, CodeCall, hear, happens, turnAfter, handedOn, CodeByTheTable, no-call, device-call, till-call}
+use Rattle.promises.specs.Coded.{Machines, Fresh, benchOf, CodeCall, hear, happens, turnAfter, handedOn, CodeByTheTable, no-call, device-call, till-call}
 use Rattle.promises.proofs.Demand1.{by-the-till-end}
 use Rattle.promises.proofs.CodedDevice.{DeviceOk, device-called}
 use Rattle.promises.proofs.CodedTill.{TillOk, follows, till-result, till-after}
 
 -- any calls
-record Ok (f : Handed) : Type 0 where
+record Ok (f : Machines) : Type 0 where
   device : DeviceOk (f .line) (f .books) (f .frame) (f .last)
   till : TillOk (f .till) (f .sent) (f .answer)
 
-all-calls : (f : Handed) → Ok f → (calls : List CodeCall) → CodeByTheTable (benchOf f) f calls
+all-calls : (f : Machines) → Ok f → (calls : List CodeCall) → CodeByTheTable (benchOf f) f calls
 all-calls f ok [] = no-call
 all-calls f ok (hear buffer bytes ∷ calls) =
     let p = device-called (benchOf f .till) (f .line) (f .books) (f .frame) (f .last) (ok .device) buffer bytes in
@@ -28,7 +28,7 @@ all-calls f ok (happens buffer h ∷ calls) =
     (all-calls (handedOn f (happens buffer h)) (record { device = ok .device; till = till-after f (ok .till) buffer h }) calls))
 
 -- the theorem
-pub the-code-replies-by-the-table : (f : Handed) → Fresh f → (calls : List CodeCall) → CodeByTheTable freshBench f calls
+pub the-code-replies-by-the-table : (f : Machines) → Fresh f → (calls : List CodeCall) → CodeByTheTable freshBench f calls
 the-code-replies-by-the-table f fresh calls =
     subst (λ s. CodeByTheTable s f calls) says-fresh (all-calls f fresh-ok calls)
   where
@@ -39,7 +39,6 @@ the-code-replies-by-the-table f fresh calls =
     fresh-ok =
         record {
           device = record {
-            small = rw (fresh .line) (omega arith);
             frames = fresh .frame;
             lasts = fresh .last;
             short = rw (fresh .line) tt;

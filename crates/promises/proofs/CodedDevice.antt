@@ -12,6 +12,7 @@ use Rattle.wire.specs.Frame.{Message}
 use Rattle.wire.specs.declared.Kind.the-variants.{Command}
 use Rattle.reader.specs.Reading.{Place, outside, inside, Event, nothing, brokenFrame, heard, Read, read}
 use Rattle.reader.specs.Fields.{placeOf, readerOf}
+use Rattle.reader.proofs.Holding.{Underway, underway-few, underway-read}
 use Rattle.reader.proofs.Running.{bytesOf, kept-length}
 use Rattle.books.specs.declared.Books.{Books}
 use Rattle.answers.proofs.Shown.{shown-short}
@@ -26,20 +27,19 @@ use Rattle.line.specs.declared.Line.{Line}
 use Rattle.device.specs.Carrying.{deedFor, answerTo, carry}
 use Rattle.device.specs.Device as device
 use Rattle.device.specs.Hearing.{PartHeard, partOf, oneMore, hearing, afterPart}
-use Rattle.device.proofs.Listening.{state-back}
+use Rattle.device.proofs.Parts.{state-back}
 use Rattle.device.proofs.Working.{front-stands, again-few}
 use Rattle.till.specs.Turns as till
 use Rattle.promises.specs.AtDevice.{FromDevice, tells, row-7}
 use Rattle.promises.specs.Demand1.{Bench, atDevice, fromDevice, ByTheTable, at-device}
 use Rattle.promises.specs.Ends.{ofDevice}
-use Rattle.promises.specs.Coded.{DeviceResult, asks, PartByTheTable, not-taken, no-byte, asking-byte, quiet-byte}
+use Rattle.promises.specs.Coded.{DeviceResult, isAsking, PartByTheTable, not-taken, no-byte, asking-byte, quiet-byte}
 use Rattle.promises.proofs.Demand1.{by-the-device, deed-stays, event-stays}
 use Rattle.promises.proofs.DeviceRows.{again, ordered, short7}
-use Rattle.promises.proofs.Sizes.{Underway, underway-few, underway-read, answer-length}
+use Rattle.promises.proofs.Sizes.{answer-length}
 
 -- the device's fields and arrays, at the sizes that their types give, with books that a fresh device comes to
 pub record DeviceOk (l : Line) (b : Books) (frame last : List ℕ) : Type 0 where
-  pub small : l .reader .count < 256
   pub frames : length frame ≡ 256
   pub lasts : length last ≡ 217
   pub short : Underway Command (placeOf (l .reader) frame)
@@ -97,19 +97,14 @@ module _ (l : Line) (b : Books) (frame last : List ℕ) (ok : DeviceOk l b frame
       back : device.stateOf (after e .given .line) (after e .given .books) (after e .frame) (after e .last) ≡ turned e .state
       back =
           subst (λ z. device.stateOf (after z .given .line) (after z .given .books) (after z .frame) (after z .last) ≡ turned z .state) is
-          (state-back l b frame last (ok .lasts) x (ok .small) (ok .frames) (few-given (at .place) (at .event)))
+          (state-back l b frame last (ok .lasts) x (underway-few Command (here .place) (ok .short)) (ok .frames) (few-given (at .place) (at .event)))
 
       short-now : Underway Command (turned e .state .place)
       short-now = subst (Underway Command) (sym (goes-to (at .place) e)) (underway-read Command (here .place) x (ok .short))
 
-      count-is : (p : Place) → readerOf p .count ≡ length (bytesOf p)
-      count-is outside = refl
-      count-is (inside sum bytes) = refl
-
       ok-after : DeviceOk (after e .given .line) (after e .given .books) (after e .frame) (after e .last)
       ok-after =
           record {
-            small = subst (λ n. n < 256) (sym (count-is (turned e .state .place))) (underway-few Command (turned e .state .place) short-now);
             frames = kept-length frame (turned e .state .place) ∙ ok .frames;
             lasts = last-kept (turned e .gives) (turned e .carried);
             short = subst (Underway Command) (sym (ap (λ (s : line.State Books). s .place) back)) short-now;
@@ -138,12 +133,12 @@ pub record HeardBy (t : till.State) (l : Line) (b : Books) (frame last buffer by
 
 module _ (t : till.State) (buffer : List ℕ) (room : 217 ≤ length buffer) where
   asked : (l : Line) (b : Books) (frame last : List ℕ) (ok : DeviceOk l b frame last) (x : ℕ) (bytes : List ℕ) (e : Event) (call : Call)
-      → read Command (device.stateOf l b frame last .place) x .event ≡ e → asks e ≡ true
+      → read Command (device.stateOf l b frame last .place) x .event ≡ e → isAsking e ≡ true
       → HeardBy t l b frame last buffer (x ∷ bytes) (partOf (after l b frame last ok x buffer e) call 1)
   asked l b frame last ok x bytes e call is some =
       record {
         reply = ofDevice buffer (turned l b frame last ok x buffer e);
-        by = asking-byte room (subst (λ z. asks z ≡ true) (sym is) some) (by-event l b frame last ok x buffer e is room t);
+        by = asking-byte room (subst (λ z. isAsking z ≡ true) (sym is) some) (by-event l b frame last ok x buffer e is room t);
         result = result l b frame last ok x buffer e is room t call;
         ok = ok-after l b frame last ok x buffer e is;
       }
@@ -174,7 +169,7 @@ module _ (t : till.State) (buffer : List ℕ) (room : 217 ≤ length buffer) whe
           record {
             reply = rest .reply;
             by =
-                quiet-byte room (ap asks is) (by-event l b frame last ok x buffer nothing is room t)
+                quiet-byte room (ap isAsking is) (by-event l b frame last ok x buffer nothing is room t)
                 (subst (λ s. PartByTheTable buffer (record { device = s; till = t }) xs
                 (hearing (a nothing .given .line) (a nothing .given .books) (a nothing .frame) (a nothing .last) buffer xs .hearing .taken) (rest .reply))
                 (back l b frame last ok x buffer nothing is) (rest .by));

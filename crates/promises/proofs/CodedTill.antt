@@ -10,6 +10,7 @@ use lib.Seq.{sets, length-sets}
 use Rattle.wire.specs.Frame.{commandOf, sendable}
 use Rattle.wire.specs.declared.Kind.the-variants.{Command, Answer}
 use Rattle.reader.specs.Reading.{outside, inside, read}
+use Rattle.reader.proofs.Holding.{underway-few}
 use Rattle.reader.proofs.Running.{kept-length}
 use Rattle.device.proofs.Working.{front-stands}
 use Rattle.till.specs.Turns as till
@@ -23,14 +24,14 @@ use Rattle.till.proofs.Outer.{read-same, framed-same}
 use Rattle.till.proofs.Seeing.{failsBy}
 use Rattle.promises.specs.AtTill.{fromLine}
 use Rattle.promises.specs.Ends.{ofTill}
-use Rattle.promises.specs.Coded.{Handed, turnAfter, sentAfter, answerAfter, givenIn, TillResult}
+use Rattle.promises.specs.Coded.{Machines, turnAfter, sentAfter, answerAfter, givenIn, TillResult}
 use Rattle.promises.proofs.Demand1.{tries-stay}
 use Rattle.promises.proofs.TillRows.{triesOf}
-use Rattle.promises.proofs.Sizes.{underway-few, Sized, turn-fits}
+use Rattle.promises.proofs.Sizes.{Sized, turn-fits}
 
 -- the till end's fields and arrays
 pub record TillOk (t : Till) (frame answer : List ℕ) : Type 0 where
-  pub small : Bytes (t .sent)
+  pub small : Bytes (t .slot)
   pub frames : length frame ≡ 256
   pub answers : length answer ≡ 256
   pub sized : Sized (fields.stateOf t frame answer .pending)
@@ -73,10 +74,10 @@ word-counts s lent h = go (ltb lent 210)
     go false = taken-count (s .next) (s .pending) h
 
 -- fields that say what fits are bytes
-bytes-of : (s : till.State) → Sized (s .pending) → Bytes (fields.tillOf s .sent)
+bytes-of : (s : till.State) → Sized (s .pending) → Bytes (fields.tillOf s .slot)
 bytes-of s z = go (s .pending) z
   where
-    go : (p : till.Pending) → Sized p → Bytes (fields.tillOf (record { next = s .next; pending = p }) .sent)
+    go : (p : till.Pending) → Sized p → Bytes (fields.tillOf (record { next = s .next; pending = p }) .slot)
     go till.idle z = tt
     go (till.waits seq code bytes tries outside) z = (omega (arith, z .0), omega arith)
     go (till.waits seq code bytes tries (inside sum read)) z = (omega (arith, z .0), underway-few Answer (inside sum read) (z .1))
@@ -85,7 +86,7 @@ framed-length : (array : List ℕ) (p : till.Pending) → length (fields.framed 
 framed-length array till.idle = refl
 framed-length array (till.waits seq code bytes tries place) = length-sets array 0 bytes
 
-read-length : (array : List ℕ) (p : till.Pending) → length (fields.readIn array p) ≡ length array
+read-length : (array : List ℕ) (p : till.Pending) → length (fields.heldIn array p) ≡ length array
 read-length array till.idle = refl
 read-length array (till.waits seq code bytes tries place) = kept-length array place
 
@@ -117,12 +118,12 @@ module _ (array : List ℕ) where
       go (till.answers m) = refl
   frame-stays next (till.waits seq code bytes tries place) e till.timeout l = frame-failed next seq code bytes tries e
 
-  answer-stays : (next : ℕ) (p : till.Pending) → fields.readIn array p ≡ array → (h : till.Happening) → isByte h ≡ false
-      → fields.readIn array (till.takes (record { next = next; pending = p }) h .state .pending) ≡ array
+  answer-stays : (next : ℕ) (p : till.Pending) → fields.heldIn array p ≡ array → (h : till.Happening) → isByte h ≡ false
+      → fields.heldIn array (till.takes (record { next = next; pending = p }) h .state .pending) ≡ array
   answer-stays next till.idle e (till.command code content) l = go (sendable Command (commandOf next code content))
     where
       go : (can : Bool)
-          → fields.readIn array (cond can (till.sent next (commandOf next code content)) (till.stays NotSent (record { next = next; pending = till.idle })) .state .pending) ≡ array
+          → fields.heldIn array (cond can (till.sent next (commandOf next code content)) (till.stays NotSent (record { next = next; pending = till.idle })) .state .pending) ≡ array
       go true = refl
       go false = refl
   answer-stays next (till.waits seq code bytes tries place) e (till.command other content) l = e
@@ -130,12 +131,12 @@ module _ (array : List ℕ) where
   answer-stays next till.idle e till.timeout l = refl
   answer-stays next (till.waits seq code bytes tries place) e till.timeout l = go (ltb tries 5)
     where
-      go : (early : Bool) → fields.readIn array (failsBy next seq code bytes tries early .state .pending) ≡ array
+      go : (early : Bool) → fields.heldIn array (failsBy next seq code bytes tries early .state .pending) ≡ array
       go true = refl
       go false = refl
 
 -- one call of the till end
-module _ (f : Handed) (ok : TillOk (f .till) (f .sent) (f .answer)) (buffer : List ℕ) where
+module _ (f : Machines) (ok : TillOk (f .till) (f .sent) (f .answer)) (buffer : List ℕ) where
   abbrev state : till.State
   state = fields.stateOf (f .till) (f .sent) (f .answer)
 
@@ -146,22 +147,22 @@ module _ (f : Handed) (ok : TillOk (f .till) (f .sent) (f .answer)) (buffer : Li
   framed-is h l = go (ltb (length buffer) 210)
     where
       go : (short : Bool) → fields.framed (f .sent) (cond short (till.stays TooShort state) (till.takes state h) .state .pending) ≡ f .sent
-      go true = sym (framed-same (f .till .sent) (f .sent) (f .answer))
-      go false = frame-stays (f .sent) (state .next) (state .pending) (sym (framed-same (f .till .sent) (f .sent) (f .answer))) h l
+      go true = sym (framed-same (f .till .slot) (f .sent) (f .answer))
+      go false = frame-stays (f .sent) (state .next) (state .pending) (sym (framed-same (f .till .slot) (f .sent) (f .answer))) h l
 
-  read-is : (h : till.Happening) → isByte h ≡ false → fields.readIn (f .answer) (turn h .state .pending) ≡ f .answer
+  read-is : (h : till.Happening) → isByte h ≡ false → fields.heldIn (f .answer) (turn h .state .pending) ≡ f .answer
   read-is h l = go (ltb (length buffer) 210)
     where
-      go : (short : Bool) → fields.readIn (f .answer) (cond short (till.stays TooShort state) (till.takes state h) .state .pending) ≡ f .answer
-      go true = sym (read-same (f .till .sent) (f .sent) (f .answer))
-      go false = answer-stays (f .answer) (state .next) (state .pending) (sym (read-same (f .till .sent) (f .sent) (f .answer))) h l
+      go : (short : Bool) → fields.heldIn (f .answer) (cond short (till.stays TooShort state) (till.takes state h) .state .pending) ≡ f .answer
+      go true = sym (read-same (f .till .slot) (f .sent) (f .answer))
+      go false = answer-stays (f .answer) (state .next) (state .pending) (sym (read-same (f .till .slot) (f .sent) (f .answer))) h l
 
   sent-is : (h : till.Happening) → sentAfter f buffer h ≡ fields.framed (f .sent) (turn h .state .pending)
   sent-is (till.command code content) = refl
   sent-is (till.byte b) = sym (framed-is (till.byte b) refl)
   sent-is till.timeout = sym (framed-is till.timeout refl)
 
-  answer-is : (h : till.Happening) → answerAfter f buffer h ≡ fields.readIn (f .answer) (turn h .state .pending)
+  answer-is : (h : till.Happening) → answerAfter f buffer h ≡ fields.heldIn (f .answer) (turn h .state .pending)
   answer-is (till.command code content) = sym (read-is (till.command code content) refl)
   answer-is (till.byte b) = refl
   answer-is till.timeout = sym (read-is till.timeout refl)
@@ -197,6 +198,6 @@ module _ (f : Handed) (ok : TillOk (f .till) (f .sent) (f .answer)) (buffer : Li
           tries = subst (λ (s : till.State). triesOf (s .pending) ≤ 5) (sym follows) (tries-stay (length buffer) state h (ok .tries));
         }
       where
-        go : (refused : Bool) → Sized (turn h .state .pending) → Bytes (cond refused (f .till) (fields.tillOf (turn h .state)) .sent)
+        go : (refused : Bool) → Sized (turn h .state .pending) → Bytes (cond refused (f .till) (fields.tillOf (turn h .state)) .slot)
         go true z = ok .small
         go false z = bytes-of (turn h .state) z

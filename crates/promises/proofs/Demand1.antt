@@ -24,7 +24,7 @@ use Rattle.till.specs.Turns as till
 use Rattle.till.specs.declared.Word.the-variants.{Unfinished, TooShort, NotSent}
 use Rattle.till.proofs.Seeing.{failsBy}
 use Rattle.promises.specs.AtDevice.{ByDevice}
-use Rattle.promises.specs.AtTill.{replies, fails, atRest, row-9}
+use Rattle.promises.specs.AtTill.{replies, fails, noneWaits, row-9}
 use Rattle.promises.specs.Demand1.{Bench, freshBench, Comes, atDevice, atTill, Outcome, fromDevice, fromTill, benchAfter, ByTheTable, at-device, at-till, AllByTheTable, no-more, then}
 use Rattle.promises.specs.Ends.{ofDevice, ofTill, outcomeOf, outcomesOf}
 use Rattle.promises.proofs.DeviceRows as device-rows
@@ -156,6 +156,6 @@ no-other-replies cs rs all = the-replies-are-the-only-ones freshBench cs rs (out
 -- "After the fifth failed try the till end says Unfinished, never an answer": the table leaves it no other reply
 pub the-fifth-failed-try : (s : Bench) (buffer : List ℕ) (h : till.Happening) (seq code : ℕ) (bytes : List ℕ) (place : Place) → 210 ≤ length buffer
     → s .till .pending ≡ till.waits seq code bytes 5 place → fails seq code place h ≡ true
-    → (r : Outcome) → ByTheTable s (atTill buffer h) r → r ≡ fromTill (replies 9 (Unfinished 5) 5 [] buffer (atRest (s .till)))
+    → (r : Outcome) → ByTheTable s (atTill buffer h) r → r ≡ fromTill (replies 9 (Unfinished 5) 5 [] buffer (noneWaits (s .till)))
 the-fifth-failed-try s buffer h seq code bytes place room e f r b =
-    the-reply-is-the-only-one s (atTill buffer h) r (fromTill (replies 9 (Unfinished 5) 5 [] buffer (atRest (s .till)))) b (at-till (row-9 seq code bytes place room e f))
+    the-reply-is-the-only-one s (atTill buffer h) r (fromTill (replies 9 (Unfinished 5) 5 [] buffer (noneWaits (s .till)))) b (at-till (row-9 seq code bytes place room e f))

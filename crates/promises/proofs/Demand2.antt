@@ -1,6 +1,6 @@
 -- Demand 2: "Frames, answers, sums and status bytes are those of the protocol papers as document 01 condenses them, built and read alike. Cash
 -- equals all that was put in less all that was taken out, over the whole history."
-use mathlib.Core.Path.{_≡_, refl, sym, ap, _∙_, subst}
+use mathlib.Core.Path.{_≡_, refl, sym, ap, _∙_}
 use mathlib.Core.Bool.{true}
 use mathlib.Core.List.{List, [], _∷_, _++_}
 use Prim.Native.Nat.{ℕ, _+_, _-_, _^_, _≤_, _<_}
@@ -12,25 +12,28 @@ use Rattle.wire.specs.declared.Kind.the-variants.{Command, Answer}
 use Rattle.reader.specs.Reading.{Place, outside, nothing, heard, startsAnew, read, run}
 use Rattle.reader.proofs.RoundTrip.{read-what-was-built, parts}
 use Rattle.reader.proofs.History.{built-is-all-that-is-read}
+use Rattle.kinds.specs.declared.Command.the-variants.{Drawer}
 use Rattle.kinds.specs.declared.Parsed.{Parsed}
 use Rattle.kinds.specs.declared.Parsed.the-variants.{Read, Syntax, Unknown}
+use Rattle.kinds.specs.declared.Service.{Service}
 use Rattle.command.specs.Commands.{parsedOf}
 use Rattle.books.specs.declared.Books.{Books}
 use Rattle.answers.proofs.Shown.{shown-sendable}
-use Rattle.history.specs.Agrees.{Agrees}
+use Rattle.history.specs.Agrees.{Agrees, toldBooks}
 use Rattle.history.specs.Digits.{InDigits, leftOf}
-use Rattle.history.specs.History.{putIn, takenOut}
-use Rattle.history.proofs.Digits.{every-history-fits, rest-and-change-fit}
-use Rattle.history.proofs.Histories.{every-history-agrees}
+use Rattle.history.specs.History.{receiptTotal, paidSum, putIn, takenOut}
+use Rattle.history.proofs.Digits.{digits-fit, rest-and-change-fit}
+use Rattle.history.proofs.Histories.{never-overpaid, agreed-is-told}
+use Rattle.line.specs.Turns.{State, Session}
 use Rattle.device.specs.Carrying.{deedFor, answerTo, carry}
 use Rattle.device.specs.Recording.{recording}
 use Rattle.till.specs.Turns as turns
-use Rattle.till.specs.History.{history, line, words, behind}
+use Rattle.till.specs.History.{history, heardBytes, words, behind}
 use Rattle.till.specs.History as till
 use Rattle.till.specs.declared.Word.the-variants.{Waiting, Answered}
 use Rattle.till.proofs.Frames.{answer-heard}
-use Rattle.promises.specs.Demand2.{readIn, entriesOf, booksAfter}
-use Rattle.promises.proofs.Joining.{books-told, recording-reached, deed-reached}
+use Rattle.promises.specs.Demand2.{LentByte, alwaysLent, turnBy, turnsOf, deviceAfter, allGiven, allCarried, dataIn, freshDevice, entriesOf, booksAfter, cashIn}
+use Rattle.promises.proofs.Joining.{deed-reached, any-history-reached, any-history-agrees, device-after-one, session-turns, cash-in-answer}
 use Rattle.promises.proofs.Verdicts.{Right, syntax, no-kind, is-read, parsed-right, right-priced}
 
 -- "built and read alike": the frame of whatever can be sent, read from any place, is heard as exactly that
@@ -44,47 +47,70 @@ pub what-is-read-was-built : (k : Kind) (bytes : List ℕ) (b : ℕ) (m : Messag
 what-is-read-was-built = built-is-all-that-is-read
 
 -- every answer of a device that was fresh, to whatever can be sent, is an answer that can be sent
-pub every-answer-can-be-sent : (bytes : List ℕ) (m : Message) → sendable Command m ≡ true
-    → sendable Answer (answerTo (booksAfter bytes) (m .seq) (m .code) (deedFor (booksAfter bytes) (parsedOf (m .code) (m .content)))) ≡ true
-every-answer-can-be-sent bytes m e =
-    let b = booksAfter bytes in
+pub every-answer-can-be-sent : (arrived : List LentByte) (m : Message) → sendable Command m ≡ true
+    → sendable Answer (answerTo (booksAfter arrived) (m .seq) (m .code) (deedFor (booksAfter arrived) (parsedOf (m .code) (m .content)))) ≡ true
+every-answer-can-be-sent arrived m e =
+    let b = booksAfter arrived in
     let d = deedFor b (parsedOf (m .code) (m .content)) in
-    let before = recording-reached bytes in
+    let before = any-history-reached arrived in
     let after = deed-reached b (parsedOf (m .code) (m .content)) before in
     let marks = parts Command m e in
     shown-sendable (m .seq) (m .code) (d .number) (d .shown) (b .day) (d .books) (marks .seq) (marks .code) (before .eight-sums) (after .eight-sums) (after .receipt .eight-groups)
 
 -- and a till end that waits for it, wherever its reading stands, says Waiting up to its last byte and then Answered, with its data and status
-pub both-ends-speak-alike : (bytes : List ℕ) (m : Message) → sendable Command m ≡ true
+pub both-ends-speak-alike : (arrived : List LentByte) (m : Message) → sendable Command m ≡ true
     → (s : turns.State) (sent : List ℕ) (tries : ℕ) (place : Place) → s .pending ≡ turns.waits (m .seq) (m .code) sent tries place
-    → let a = answerTo (booksAfter bytes) (m .seq) (m .code) (deedFor (booksAfter bytes) (parsedOf (m .code) (m .content))) in
-    let heard-bytes = line (carry (booksAfter bytes) m .answer) in
+    → let a = answerTo (booksAfter arrived) (m .seq) (m .code) (deedFor (booksAfter arrived) (parsedOf (m .code) (m .content))) in
+    let heard-bytes = heardBytes (carry (booksAfter arrived) m .answer) in
     (words (history s heard-bytes) ≡ replicate (length (frame Answer a) - 1) (Waiting 0) ++ Answered (length (a .content ++ a .status)) ∷ [])
-    × ((till.given (history s heard-bytes) ≡ replicate (length (frame Answer a) - 1) [] ++ (a .content ++ a .status) ∷ [])
+    × ((till.putsOf (history s heard-bytes) ≡ replicate (length (frame Answer a) - 1) [] ++ (a .content ++ a .status) ∷ [])
     × (behind s heard-bytes ≡ record { next = s .next; pending = turns.idle }))
-both-ends-speak-alike bytes m e s sent tries place waiting =
+both-ends-speak-alike arrived m e s sent tries place waiting =
     answer-heard s (m .seq) (m .code) sent tries place waiting
-    (answerTo (booksAfter bytes) (m .seq) (m .code) (deedFor (booksAfter bytes) (parsedOf (m .code) (m .content)))) (every-answer-can-be-sent bytes m e) refl refl
+    (answerTo (booksAfter arrived) (m .seq) (m .code) (deedFor (booksAfter arrived) (parsedOf (m .code) (m .content)))) (every-answer-can-be-sent arrived m e) refl refl
 
--- cash, for every recording heard by a fresh device
-pub cash-is-put-in-less-taken-out : (bytes : List ℕ)
-    → (booksAfter bytes .drawer .cash ≡ putIn (entriesOf bytes) - takenOut (entriesOf bytes)) × (takenOut (entriesOf bytes) ≤ putIn (entriesOf bytes))
-cash-is-put-in-less-taken-out bytes =
-    let all = every-history-agrees (readIn (recording bytes .carried)) in
-    (ap (λ (b : Books). b .drawer .cash) (books-told bytes) ∙ all .cash, all .covered)
+-- a recording is a history in which 217 bytes are lent each time: all it gives back and carries out is what the turns do
+pub a-recording-is-its-turns : (bytes : List ℕ)
+    → recording bytes ≡ record { gives = allGiven (turnsOf freshDevice (alwaysLent bytes)); carried = allCarried (turnsOf freshDevice (alwaysLent bytes)); state = deviceAfter freshDevice (alwaysLent bytes) }
+a-recording-is-its-turns bytes = session-turns freshDevice bytes
 
--- and every other figure: open receipt, day sums, registers, service sums, counters, closings and FM are what the entries come to
-pub every-figure-follows : (bytes : List ℕ) → Agrees (entriesOf bytes) (booksAfter bytes)
-every-figure-follows bytes = subst (Agrees (entriesOf bytes)) (sym (books-told bytes)) (every-history-agrees (readIn (recording bytes .carried)))
+-- cash, for all bytes that arrive at a fresh device, whatever is lent with each
+pub cash-is-put-in-less-taken-out : (arrived : List LentByte)
+    → (booksAfter arrived .drawer .cash ≡ putIn (entriesOf arrived) - takenOut (entriesOf arrived)) × (takenOut (entriesOf arrived) ≤ putIn (entriesOf arrived))
+cash-is-put-in-less-taken-out arrived = (any-history-agrees arrived .cash, any-history-agrees arrived .covered)
+
+-- and it can be seen: the Cash field of every answer to a 70 that is done, read back as a number
+pub cash-is-seen : (arrived : List LentByte) (a : LentByte) → let t = turnBy (deviceAfter freshDevice arrived) a in
+    (m : Message) (s : Service) → t .carried ≡ m ∷ [] → parsedOf (m .code) (m .content) ≡ Read (Drawer s) → t .number ≡ 0
+    → cashIn (dataIn (t .gives)) ≡ putIn (entriesOf (arrived ++ a ∷ [])) - takenOut (entriesOf (arrived ++ a ∷ []))
+cash-is-seen arrived a m s one is70 zero =
+    cash-in-answer (deviceAfter freshDevice arrived) (any-history-reached arrived) m s is70 a one zero
+    ∙ ap (λ (z : State Books). z .books .drawer .cash) (sym (device-after-one freshDevice arrived a))
+    ∙ any-history-agrees (arrived ++ a ∷ []) .cash
+
+-- and every other figure: the open receipt, its lines, "53 done" and "paid in full", day sums, registers, service sums, counters, closings and FM
+pub every-figure-follows : (arrived : List LentByte) → Agrees (entriesOf arrived) (booksAfter arrived)
+every-figure-follows = any-history-agrees
+
+-- what is due is never cut off at zero
+pub no-more-paid-than-due : (arrived : List LentByte) → paidSum (entriesOf arrived) ≤ receiptTotal (entriesOf arrived)
+no-more-paid-than-due arrived = never-overpaid (entriesOf arrived) (booksAfter arrived) (any-history-reached arrived) (any-history-agrees arrived)
+
+-- so the entries alone tell the whole books, no field left out
+pub the-entries-tell-the-books : (arrived : List LentByte) → booksAfter arrived ≡ toldBooks (entriesOf arrived)
+the-entries-tell-the-books arrived = agreed-is-told (entriesOf arrived) (booksAfter arrived) (any-history-reached arrived) (any-history-agrees arrived)
+
+pub and-those-of-a-recording : (bytes : List ℕ) → recording bytes .state .books ≡ toldBooks (entriesOf (alwaysLent bytes))
+and-those-of-a-recording bytes = ap (λ (z : Session Books). z .state .books) (a-recording-is-its-turns bytes) ∙ the-entries-tell-the-books (alwaysLent bytes)
 
 -- "No field shown ever passes its digits."
-pub every-field-fits : (bytes : List ℕ) → InDigits (booksAfter bytes)
-every-field-fits bytes = subst InDigits (sym (books-told bytes)) (every-history-fits (readIn (recording bytes .carried)))
+pub every-field-fits : (arrived : List LentByte) → InDigits (booksAfter arrived)
+every-field-fits arrived = digits-fit (booksAfter arrived) (any-history-reached arrived)
 
-pub rest-and-change-fit-too : (bytes : List ℕ) (code : ℕ) (content : List ℕ) → leftOf (deedFor (booksAfter bytes) (parsedOf code content) .shown) < 10 ^ 10
-rest-and-change-fit-too bytes code content = go (parsedOf code content) (parsed-right code content)
+pub rest-and-change-fit-too : (arrived : List LentByte) (code : ℕ) (content : List ℕ) → leftOf (deedFor (booksAfter arrived) (parsedOf code content) .shown) < 10 ^ 10
+rest-and-change-fit-too arrived code content = go (parsedOf code content) (parsed-right code content)
   where
-    go : (x : Parsed) → Right x → leftOf (deedFor (booksAfter bytes) x .shown) < 10 ^ 10
-    go (Read c) (is-read r) = rest-and-change-fit (booksAfter bytes) c (recording-reached bytes) (right-priced c r)
+    go : (x : Parsed) → Right x → leftOf (deedFor (booksAfter arrived) x .shown) < 10 ^ 10
+    go (Read c) (is-read r) = rest-and-change-fit (booksAfter arrived) c (any-history-reached arrived) (right-priced c r)
     go Syntax syntax = omega arith
     go Unknown no-kind = omega arith

@@ -3,26 +3,35 @@
 -- whole; no byte is lost or added. Then the device carries out that very list, each command once and in order, by demand 2's rules. So two
 -- different lists never arrive as the same bytes." Request 2026-11: "a try may also arrive as any beginning of its frame, from nothing to all but
 -- the last byte, with the rest lost." (`line/specs/Delivery.antt` says this of a list with its tries: `delivery`, `allArriving`; `tries/specs/Tries.antt` of one try.)
-use mathlib.Core.Path.{_≡_, refl, ap}
-use mathlib.Core.Bool.{Bool, true, false, cond}
+use mathlib.Core.Path.{_≡_, refl, sym, ap, _∙_, subst}
+use mathlib.Core.Bool.{Bool, true, false, cond, not, _&&_, false≢true}
 use mathlib.Core.Logic.{_⊎_, inl, inr}
-use mathlib.Core.List.{List, [], _∷_}
+use mathlib.Core.List.{List, [], _∷_, _++_, Sublist}
 use Prim.Native.Nat.{ℕ, zero, suc, _+_}
-use lib.Dec.{ltb}
-use lib.ListN.{length}
+use lib.Dec.{ltb, eqb}
+use lib.ListN.{length, replicate}
 use lib.Seq.{sets}
+use borrow.Author.Tests.{ne-eqb}
 use Rattle.wire.specs.Frame.{Message, frame, sendable}
 use Rattle.wire.specs.declared.Kind.the-variants.{Command}
+use Rattle.wire.proofs.Suits.{both}
 use Rattle.reader.specs.Reading.{outside, brokenFrame}
 use Rattle.books.specs.Books.{freshBooks}
 use Rattle.books.specs.declared.Books.{Books}
 use Rattle.line.specs.Turns.{Before, switchedOn, session}
-use Rattle.tries.specs.Tries.{cut, Begun, clear, begun, brings}
-use Rattle.line.specs.Delivery.{Sent, delivery, commands, allArriving, given, carryAll, AllBring, EndedByTheNext}
+use Rattle.tries.specs.Tries.{Arrival, cut, mayArrive, arriving, Begun, clear, begun, brings}
+use Rattle.line.specs.Delivery.{isWhole, Sent, all, any, tried, differsFrom, delivery, commands, triesArriving, allArriving, givenBack, carryAll, AllBring, EndedByTheNext}
+use Rattle.line.specs.AtMostOnce.{allMayCome, allHeard, withoutRepeats, noneLacksLast, arrivedWhole, neighboursDiffer}
 use Rattle.line.proofs.Delivered.{carries-out-that-very-list, brings-for-each-try, same-bytes-same-list}
+use Rattle.line.proofs.AtMostOnce.{carries-out-what-is-heard, carries-out-those-whole}
+use Rattle.line.proofs.PartOf.{carries-out-a-part}
 use Rattle.line.proofs.Ended.{ended-by-the-next}
+use Rattle.till.specs.History.{Lent, seqOf}
+use Rattle.till.specs.Handed.{Handed, handedIn, AllInPlace}
+use Rattle.till.proofs.Handing.{seqs-differ, frames-are-tries}
 use Rattle.device.specs.Carrying.{carry}
 use Rattle.device.specs.Recording.{recording, listing, toldIn}
+use Rattle.promises.specs.Demand3.{eachArrives, allArrive, eachOneWhole, framesArriving, bytesArriving, takenCommands, overTheLine}
 
 -- the list is carried out, each command once and in order, and the books are those of carrying it out by demand 2's rules (`carry`)
 pub carries-out-the-list : (cs : List Sent) → delivery cs ≡ true
@@ -42,12 +51,12 @@ each-try-brings books cs e = brings-for-each-try carry cs e books
 
 -- so a cut try is answered with nothing or with one NAK
 pub a-cut-try-is-answered : (m : Message) (b : Begun) (last answer : List ℕ) (count : ℕ)
-    → (given m last answer (brings Command b m (cut count)) ≡ []) ⊎ (given m last answer (brings Command b m (cut count)) ≡ 0x15 ∷ [])
+    → (givenBack m last answer (brings Command b m (cut count)) ≡ []) ⊎ (givenBack m last answer (brings Command b m (cut count)) ≡ 0x15 ∷ [])
 a-cut-try-is-answered m b last answer zero = inl refl
 a-cut-try-is-answered m clear last answer (suc count) = inl refl
 a-cut-try-is-answered m (begun n came) last answer (suc count) = go (ltb 1 came)
   where
-    go : (t : Bool) → (given m last answer (cond t (brokenFrame ∷ []) []) ≡ []) ⊎ (given m last answer (cond t (brokenFrame ∷ []) []) ≡ 0x15 ∷ [])
+    go : (t : Bool) → (givenBack m last answer (cond t (brokenFrame ∷ []) []) ≡ []) ⊎ (givenBack m last answer (cond t (brokenFrame ∷ []) []) ≡ 0x15 ∷ [])
     go true = inr refl
     go false = inl refl
 
@@ -68,3 +77,119 @@ pub the-code-tells-the-list : (cs : List Sent) → delivery cs ≡ true → (out
 the-code-tells-the-list cs e out orders =
     let both = carries-out-the-list cs e in
     (both .1, ap (λ z. sets orders 0 (listing z)) (both .0))
+
+-- at most once, without "at least one whole": whatever tries arrive, and in whatever of the ways, what is carried out is what is heard, told from the tries
+-- alone, repeats left out
+pub carries-out-what-was-heard : (cs : List Sent) → allMayCome cs ≡ true → (books : Books)
+    → (session carry (switchedOn books) (allArriving cs) .carried ≡ withoutRepeats (allHeard clear cs))
+    × (session carry (switchedOn books) (allArriving cs) .state .books ≡ carryAll carry books (withoutRepeats (allHeard clear cs)))
+carries-out-what-was-heard = carries-out-what-is-heard carry
+
+-- and it is the list with some left out: each command at most once, and in order
+pub carries-out-at-most-once : (cs : List Sent) → allMayCome cs ≡ true → (books : Books) → Sublist (session carry (switchedOn books) (allArriving cs) .carried) (commands cs)
+carries-out-at-most-once = carries-out-a-part carry
+
+-- as long as no cut try lacks only its last byte (PROTOCOL 9.5), exactly those commands of which a try arrived whole, where these neighbours differ
+pub carries-out-those-that-arrived : (cs : List Sent) → allMayCome cs ≡ true → noneLacksLast cs ≡ true → neighboursDiffer (arrivedWhole cs) ≡ true → (books : Books)
+    → (session carry (switchedOn books) (allArriving cs) .carried ≡ commands (arrivedWhole cs))
+    × (session carry (switchedOn books) (allArriving cs) .state .books ≡ carryAll carry books (commands (arrivedWhole cs)))
+carries-out-those-that-arrived = carries-out-those-whole carry
+
+-- from the till end: its frames, whatever the line does to each, are such a list
+and-true-both : (s t : Bool) → s ≡ true → t ≡ true → s && t ≡ true
+and-true-both s t e f = rw (e, f)
+
+same-frames : (n : ℕ) (f : List ℕ) (ways : List Arrival) → eachArrives (replicate n f) ways ≡ true
+    → (all (mayArrive f) ways ≡ true) × (framesArriving (replicate n f) ways ≡ triesArriving f ways)
+same-frames zero f [] e = (refl, refl)
+same-frames zero f (a ∷ ways) e = absurd (false≢true e)
+same-frames (suc n) f [] e = absurd (false≢true e)
+same-frames (suc n) f (a ∷ ways) e =
+    let two = both (mayArrive f a) (eachArrives (replicate n f) ways) e in
+    let rest = same-frames n f ways (two .1) in
+    (and-true-both (mayArrive f a) (all (mayArrive f) ways) (two .0) (rest .0), ap (λ z. arriving f a ++ z) (rest .1))
+
+-- neighbours differ by the till end's own SEQ
+seq-differs : (place : ℕ) (m : Message) → m .seq ≡ seqOf place → (hs : List Handed) (rest : List (List Arrival)) → AllInPlace (place + 1) hs
+    → differsFrom m (overTheLine hs rest) ≡ true
+seq-differs place m e [] rest p = refl
+seq-differs place m e (h ∷ hs) [] p = refl
+seq-differs place m e (h ∷ hs) (ways ∷ rest) p =
+    ap (λ t. not (t && eqb (m .code) (h .command .code)))
+    (ne-eqb (m .seq) (h .command .seq) (λ q. seqs-differ place (sym e ∙ q ∙ p .0 .seq)))
+
+-- what crosses the line: the bytes and the commands are the till end's, and each try is one of its command's
+record Crosses (hs : List Handed) (rest : List (List Arrival)) : Type 0 where
+  may-come : allMayCome (overTheLine hs rest) ≡ true
+  same-bytes : bytesArriving hs rest ≡ allArriving (overTheLine hs rest)
+  same-commands : commands (overTheLine hs rest) ≡ takenCommands hs
+  is-delivery : eachOneWhole rest ≡ true → delivery (overTheLine hs rest) ≡ true
+
+crosses : (hs : List Handed) (place : ℕ) → AllInPlace place hs → (rest : List (List Arrival)) → allArrive hs rest ≡ true → Crosses hs rest
+crosses [] place p [] e = record { may-come = refl; same-bytes = refl; same-commands = refl; is-delivery = λ w. refl }
+crosses [] place p (ways ∷ rest) e = absurd (false≢true e)
+crosses (h ∷ hs) place p [] e = absurd (false≢true e)
+crosses (h ∷ hs) place p (ways ∷ rest) e =
+    let m = h .command in
+    let f = frame Command m in
+    let two = both (eachArrives (h .frames) ways) (allArrive hs rest) e in
+    let own = p .0 .tried in
+    let n = length (h .frames) in
+    let tries = same-frames n f ways (sym (ap (λ z. eachArrives z ways) (own .same)) ∙ two .0) in
+    let others = crosses hs (place + 1) (p .1) rest (two .1) in
+    let may = and-true-both (sendable Command m) (all (mayArrive f) ways) (own .can) (tries .0) in
+    let cs = overTheLine hs rest in
+    record {
+      may-come = and-true-both (sendable Command m && all (mayArrive f) ways) (allMayCome cs) may (others .may-come);
+      same-bytes = ap (λ z. z ++ bytesArriving hs rest) (ap (λ z. framesArriving z ways) (own .same) ∙ tries .1)
+          ∙ ap (λ z. triesArriving f ways ++ z) (others .same-bytes);
+      same-commands = ap (λ z. m ∷ z) (others .same-commands);
+      is-delivery = λ w.
+          let whole = both (any isWhole ways) (eachOneWhole rest) w in
+          and-true-both (tried (record { command = m; tries = ways }) && differsFrom m cs) (delivery cs)
+          (and-true-both (tried (record { command = m; tries = ways })) (differsFrom m cs)
+          (and-true-both (sendable Command m && all (mayArrive f) ways) (any isWhole ways) may (whole .0))
+          (seq-differs place m (p .0 .seq) hs rest (p .1)))
+          (others .is-delivery (whole .1));
+    }
+
+-- whatever happens at a fresh till end, and whatever the line does to each frame that it hands out, at least one of each command arriving whole: the device
+-- carries out the commands that the till end took, each once and in order
+pub the-till-s-commands-are-carried-out : (ls : List Lent) (ways : List (List Arrival)) → allArrive (handedIn ls) ways ≡ true → eachOneWhole ways ≡ true
+    → (delivery (overTheLine (handedIn ls) ways) ≡ true)
+    × (recording (bytesArriving (handedIn ls) ways) .carried ≡ takenCommands (handedIn ls))
+    × (recording (bytesArriving (handedIn ls) ways) .state .books ≡ carryAll carry freshBooks (takenCommands (handedIn ls)))
+the-till-s-commands-are-carried-out ls ways e w =
+    let x = crosses (handedIn ls) 0 (frames-are-tries ls) ways e in
+    let d = x .is-delivery w in
+    let all-done = carries-out-the-list (overTheLine (handedIn ls) ways) d in (
+      d,
+      ap (λ bytes. recording bytes .carried) (x .same-bytes) ∙ all-done .0 ∙ x .same-commands,
+      ap (λ bytes. recording bytes .state .books) (x .same-bytes) ∙ all-done .1 ∙ ap (carryAll carry freshBooks) (x .same-commands),
+    )
+
+-- and each at most once and in order, if whole ones are missing
+pub the-till-s-commands-at-most-once : (ls : List Lent) (ways : List (List Arrival)) → allArrive (handedIn ls) ways ≡ true
+    → let heard-of = withoutRepeats (allHeard clear (overTheLine (handedIn ls) ways)) in
+    (recording (bytesArriving (handedIn ls) ways) .carried ≡ heard-of)
+    × (recording (bytesArriving (handedIn ls) ways) .state .books ≡ carryAll carry freshBooks heard-of)
+    × Sublist (recording (bytesArriving (handedIn ls) ways) .carried) (takenCommands (handedIn ls))
+the-till-s-commands-at-most-once ls ways e =
+    let x = crosses (handedIn ls) 0 (frames-are-tries ls) ways e in
+    let cs = overTheLine (handedIn ls) ways in
+    let heard-so = carries-out-what-is-heard carry cs (x .may-come) freshBooks in (
+      ap (λ bytes. recording bytes .carried) (x .same-bytes) ∙ heard-so .0,
+      ap (λ bytes. recording bytes .state .books) (x .same-bytes) ∙ heard-so .1,
+      subst (λ ms. Sublist (recording (bytesArriving (handedIn ls) ways) .carried) ms) (x .same-commands)
+          (subst (λ bytes. Sublist (recording bytes .carried) (commands cs)) (sym (x .same-bytes)) (carries-out-a-part carry cs (x .may-come) freshBooks)),
+    )
+
+-- exactly those of which a frame arrived whole, where no cut one lacks only its last byte and these neighbours differ: the till end's SEQ comes again
+-- after 224 commands
+pub the-till-s-commands-that-arrived : (ls : List Lent) (ways : List (List Arrival)) → allArrive (handedIn ls) ways ≡ true
+    → noneLacksLast (overTheLine (handedIn ls) ways) ≡ true → neighboursDiffer (arrivedWhole (overTheLine (handedIn ls) ways)) ≡ true
+    → recording (bytesArriving (handedIn ls) ways) .carried ≡ commands (arrivedWhole (overTheLine (handedIn ls) ways))
+the-till-s-commands-that-arrived ls ways e f d =
+    let x = crosses (handedIn ls) 0 (frames-are-tries ls) ways e in
+    ap (λ bytes. recording bytes .carried) (x .same-bytes)
+    ∙ carries-out-those-that-arrived (overTheLine (handedIn ls) ways) (x .may-come) f d freshBooks .0

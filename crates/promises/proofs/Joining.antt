@@ -1,79 +1,180 @@
--- A recording's books are those of carrying out its commands, and those of the history told from them.
+-- Turn by turn, whatever the buffers lent: what an answer shows is what the command did, so the entries told from the turns agree with the books.
 use mathlib.Core.Path.{_≡_, refl, sym, ap, _∙_, subst}
 use mathlib.Core.Bool.{Bool, true, false, cond}
-use mathlib.Core.List.{List, [], _∷_, _++_}
-use Prim.Native.Nat.{ℕ}
-use Rattle.wire.specs.Frame.{Message}
-use Rattle.wire.specs.declared.Kind.the-variants.{Command}
+use mathlib.Core.List.{List, [], _∷_, _++_, append-assoc}
+use Prim.Native.Nat.{ℕ, _+_, _-_}
+use native.Mathlib.Omega.{arith}
+use lib.Dec.{ltb}
+use lib.ListN.{length, take, drop, length-append}
+use lib.Seq.{take-at}
+use Rattle.text.specs.Digits.{digits, number}
+use Rattle.text.proofs.Laws.{length-digits}
+use Rattle.wire.specs.Frame.{Message, answerOf, total, bcc, counted, frame}
+use Rattle.wire.specs.declared.Kind.the-variants as kind
 use Rattle.reader.specs.Reading.{Place, Event, nothing, brokenFrame, heard, read}
+use Rattle.kinds.specs.declared.Command.{Command}
+use Rattle.kinds.specs.declared.Command.the-variants.{Drawer}
 use Rattle.kinds.specs.declared.Parsed.{Parsed}
 use Rattle.kinds.specs.declared.Parsed.the-variants.{Read, Syntax, Unknown}
+use Rattle.kinds.specs.declared.Service.{Service}
 use Rattle.command.specs.Commands.{parsedOf}
-use Rattle.books.specs.Books.{freshBooks}
 use Rattle.books.specs.declared.Books.{Books}
-use Rattle.line.specs.Turns.{was, State, switchedOn, Carried, Turn, repeats, lastAnswer, onEvent, turn, session}
-use Rattle.line.specs.Delivery.{carryAll}
-use Rattle.device.specs.Carrying.{deedFor, carry}
-use Rattle.device.specs.Recording.{recording}
+use Rattle.books.specs.declared.Shown.{Shown}
+use Rattle.books.specs.declared.Shown.the-variants as shown
+use Rattle.answers.specs.Contents.{commaEach, contentOf}
+use Rattle.answers.specs.Status.{statusOf}
+use Rattle.answers.proofs.Shown.{field-shows}
 use Rattle.deeds.specs.Deeds.{carriedOut}
-use Rattle.history.specs.Entries.{Past, entryOf, carriedOn, historyOf, fresh}
+use Rattle.deeds.specs.declared.Deed.{Deed}
+use Rattle.line.specs.Turns.{was, State, Turn, Session, repeats, lastAnswer, onEvent, turn, session}
+use Rattle.device.specs.Carrying.{deedFor, answerTo, carry}
+use Rattle.history.specs.Agrees.{Agrees}
+use Rattle.history.specs.Entries.{Entry, entryOf}
 use Rattle.history.specs.Reached.{Reached}
-use Rattle.history.proofs.Reaching.{reached-stays, every-history-reached}
-use Rattle.promises.specs.Demand2.{withRead, readIn, booksAfter}
+use Rattle.history.proofs.Digits.{digits-fit}
+use Rattle.history.proofs.Histories.{fresh-agrees, agreement-stays}
+use Rattle.history.proofs.Laws.{seventy-shows-the-drawer}
+use Rattle.history.proofs.Reaching.{fresh-reached, reached-stays}
+use Rattle.promises.specs.Demand2.{LentByte, alwaysLent, turnBy, turnsOf, deviceAfter, allGiven, allCarried, dataIn, withRead, withTurn, toldBy, freshDevice, entriesOf, booksAfter, cashIn}
+use Rattle.promises.proofs.Verdicts.{Right, syntax, no-kind, is-read, parsed-right, right-priced}
 
-module _ {B : Type 0} (work : B → Message → Carried B) where
-  carry-append : (b : B) (ms ns : List Message) → carryAll work b (ms ++ ns) ≡ carryAll work (carryAll work b ms) ns
-  carry-append b [] ns = refl
-  carry-append b (m ∷ ms) ns = carry-append (work b m .books) ms ns
+-- the data stands in an answer's frame where it is read from
+module _ (content behind frame-end bcc-part : List ℕ) where
+  one-tail : content ++ behind ++ frame-end ++ bcc-part ++ (0x03 ∷ []) ≡ content ++ (behind ++ (frame-end ++ (bcc-part ++ (0x03 ∷ []))))
+  one-tail =
+      append-assoc (content ++ behind ++ frame-end) bcc-part (0x03 ∷ [])
+      ∙ append-assoc (content ++ behind) frame-end (bcc-part ++ (0x03 ∷ []))
+      ∙ append-assoc content behind (frame-end ++ (bcc-part ++ (0x03 ∷ [])))
 
-  abbrev again : State B → Place → Turn B
-  again s next = record { number = 6; gives = lastAnswer (s .before); carried = []; state = record { place = next; before = s .before; books = s .books } }
+data-read : (seq code : ℕ) (content status : List ℕ) → length status ≡ 6 → dataIn (frame kind.Answer (answerOf seq code content status)) ≡ content
+data-read seq code content status six =
+    let check : List ℕ = bcc (total (counted seq code (content ++ 0x04 ∷ status))) in
+    let tail : List ℕ = (0x04 ∷ status) ++ ((0x05 ∷ []) ++ (check ++ (0x03 ∷ []))) in
+    let whole : List ℕ = frame kind.Answer (answerOf seq code content status) in
+    let split : drop 4 whole ≡ content ++ tail = one-tail content (0x04 ∷ status) (0x05 ∷ []) check in
+    let long : length (drop 4 whole) ≡ length content + 13 = ap length split ∙ length-append content tail ∙ omega (arith, six, length-append (0x04 ∷ status) ((0x05 ∷ []) ++ (check ++ (0x03 ∷ [])))) in
+    let size : length content ≡ length whole - 17 = omega (arith, long) in
+    ap (take (length whole - 17)) split ∙ take-at content tail (length whole - 17) size
 
-  abbrev order : State B → Place → Message → Turn B
-  order s next m =
-      record {
-        number = work (s .books) m .number;
-        gives = work (s .books) m .answer;
-        carried = m ∷ [];
-        state = record { place = next; before = was (m .seq) (m .code) (work (s .books) m .answer); books = work (s .books) m .books };
-      }
-
-  either-books : (s : State B) (next : Place) (m : Message) (repeat : Bool)
-      → carryAll work (s .books) (cond repeat (again s next) (order s next m) .carried) ≡ cond repeat (again s next) (order s next m) .state .books
-  either-books s next m true = refl
-  either-books s next m false = refl
-
-  event-books : (s : State B) (next : Place) (e : Event) → carryAll work (s .books) (onEvent work s next e .carried) ≡ onEvent work s next e .state .books
-  event-books s next nothing = refl
-  event-books s next brokenFrame = refl
-  event-books s next (heard m) = either-books s next m (repeats (s .before) m)
-
-  pub session-books : (s : State B) (bytes : List ℕ) → session work s bytes .state .books ≡ carryAll work (s .books) (session work s bytes .carried)
-  session-books s [] = refl
-  session-books s (b ∷ bs) =
-      let t : Turn B = turn work s b in
-      session-books (t .state) bs
-      ∙ ap (λ z. carryAll work z (session work (t .state) bs .carried)) (sym (event-books s (read Command (s .place) b .place) (read Command (s .place) b .event)))
-      ∙ sym (carry-append (s .books) (t .carried) (session work (t .state) bs .carried))
-
--- the real commands: those that were read, in order
-one-read : (p : Past) (x : Parsed) (ms : List Message) → ((q : Past) → carryAll carry (q .books) ms ≡ carriedOn q (readIn ms) .books)
-    → carryAll carry (deedFor (p .books) x .books) ms ≡ carriedOn p (withRead x (readIn ms)) .books
-one-read p (Read c) ms rest = rest (record { entries = entryOf c (carriedOut (p .books) c) ∷ p .entries; books = carriedOut (p .books) c .books })
-one-read p Syntax ms rest = rest p
-one-read p Unknown ms rest = rest p
-
-pub read-books : (p : Past) (ms : List Message) → carryAll carry (p .books) ms ≡ carriedOn p (readIn ms) .books
-read-books p [] = refl
-read-books p (m ∷ ms) = one-read p (parsedOf (m .code) (m .content)) ms (λ q. read-books q ms)
-
-pub books-told : (bytes : List ℕ) → booksAfter bytes ≡ historyOf (readIn (recording bytes .carried)) .books
-books-told bytes = session-books carry (switchedOn freshBooks) bytes ∙ read-books fresh (recording bytes .carried)
-
-pub recording-reached : (bytes : List ℕ) → Reached (booksAfter bytes)
-recording-reached bytes = subst Reached (sym (books-told bytes)) (every-history-reached (readIn (recording bytes .carried)))
+-- a deed's answer, read back as the entry it makes
+told-as-done : (b : Books) (seq code : ℕ) (c : Command) (d : Deed) → _≡_ {A = Entry} (record { command = c; number = d .number; shown = dataIn (frame kind.Answer (answerTo b seq code d)) }) (entryOf b c d)
+told-as-done b seq code c d =
+    ap (λ (z : List ℕ). record { command = c; number = d .number; shown = z }) (data-read seq code (contentOf (d .shown) (b .day) (d .books)) (statusOf (d .number) (d .books)) refl)
 
 pub deed-reached : (b : Books) (x : Parsed) → Reached b → Reached (deedFor b x .books)
 deed-reached b (Read c) r = reached-stays b c r
 deed-reached b Syntax r = r
 deed-reached b Unknown r = r
+
+-- the three ways of a turn: nothing carried out, a repeat, and a frame read in some way and carried out
+abbrev again : State Books → Place → Turn Books
+again s next = record { number = 6; gives = lastAnswer (s .before); carried = []; state = record { place = next; before = s .before; books = s .books } }
+
+module _ (s : State Books) (next : Place) (m : Message) where
+  abbrev answerAs : Parsed → List ℕ
+  answerAs x = frame kind.Answer (answerTo (s .books) (m .seq) (m .code) (deedFor (s .books) x))
+
+  abbrev orderAs : Parsed → Turn Books
+  orderAs x =
+      record {
+        number = deedFor (s .books) x .number;
+        gives = answerAs x;
+        carried = m ∷ [];
+        state = record { place = next; before = was (m .seq) (m .code) (answerAs x); books = deedFor (s .books) x .books };
+      }
+
+  abbrev order : Turn Books
+  order = orderAs (parsedOf (m .code) (m .content))
+
+-- what holds of every turn that carries out nothing and leaves the books, and of every one that carries out its frame, holds of every turn
+every-turn : (P : Turn Books → Type 0) (s : State Books)
+    → ((t : Turn Books) → t .carried ≡ [] → t .state .books ≡ s .books → P t) → ((next : Place) (m : Message) → P (order s next m)) → (a : LentByte) → P (turnBy s a)
+every-turn P s quiet carries a = go (ltb (a .room) 217)
+  where
+    whole : (next : Place) (m : Message) (repeat : Bool) → P (cond repeat (again s next) (order s next m))
+    whole next m true = quiet (again s next) refl refl
+    whole next m false = carries next m
+
+    event : (next : Place) (e : Event) → P (onEvent carry s next e)
+    event next nothing = quiet (onEvent carry s next nothing) refl refl
+    event next brokenFrame = quiet (onEvent carry s next brokenFrame) refl refl
+    event next (heard m) = whole next m (repeats (s .before) m)
+
+    go : (short : Bool) → P (cond short (record { number = 7; gives = []; carried = []; state = s }) (turn carry s (a .byte)))
+    go true = quiet (record { number = 7; gives = []; carried = []; state = s }) refl refl
+    go false = event (read kind.Command (s .place) (a .byte) .place) (read kind.Command (s .place) (a .byte) .event)
+
+-- books that can be reached, and entries in agreement with them, stay so
+module _ (es : List Entry) (s : State Books) (r : Reached (s .books)) (h : Agrees es (s .books)) where
+  abbrev Stays : Turn Books → Type 0
+  Stays t = Reached (t .state .books) × Agrees (withTurn t (t .carried) es) (t .state .books)
+
+  read-agrees : (next : Place) (m : Message) (x : Parsed) → Right x → Agrees (withRead (orderAs s next m x) x es) (deedFor (s .books) x .books)
+  read-agrees next m (Read c) (is-read k) =
+      subst (λ e. Agrees (e ∷ es) (carriedOut (s .books) c .books)) (sym (told-as-done (s .books) (m .seq) (m .code) c (carriedOut (s .books) c)))
+      (agreement-stays es (s .books) c r (right-priced c k) h)
+  read-agrees next m Syntax syntax = h
+  read-agrees next m Unknown no-kind = h
+
+  turn-stays : (a : LentByte) → Stays (turnBy s a)
+  turn-stays =
+      every-turn Stays s quiet
+      (λ next m.
+      let x = parsedOf (m .code) (m .content) in
+      (deed-reached (s .books) x r, read-agrees next m x (parsed-right (m .code) (m .content))))
+    where
+      quiet : (t : Turn Books) → t .carried ≡ [] → t .state .books ≡ s .books → Stays t
+      quiet t none same = (subst Reached (sym same) r, subst (λ ms. Agrees (withTurn t ms es) (t .state .books)) (sym none) (subst (Agrees es) (sym same) h))
+
+history-stays : (es : List Entry) (s : State Books) (arrived : List LentByte) → Reached (s .books) → Agrees es (s .books)
+    → Reached (deviceAfter s arrived .books) × Agrees (toldBy es (turnsOf s arrived)) (deviceAfter s arrived .books)
+history-stays es s [] r h = (r, h)
+history-stays es s (a ∷ more) r h =
+    let now = turn-stays es s r h a in
+    history-stays (withTurn (turnBy s a) (turnBy s a .carried) es) (turnBy s a .state) more (now .0) (now .1)
+
+pub any-history-reached : (arrived : List LentByte) → Reached (booksAfter arrived)
+any-history-reached arrived = history-stays [] freshDevice arrived fresh-reached fresh-agrees .0
+
+pub any-history-agrees : (arrived : List LentByte) → Agrees (entriesOf arrived) (booksAfter arrived)
+any-history-agrees arrived = history-stays [] freshDevice arrived fresh-reached fresh-agrees .1
+
+-- one byte more
+pub device-after-one : (s : State Books) (arrived : List LentByte) (a : LentByte) → deviceAfter s (arrived ++ a ∷ []) ≡ turnBy (deviceAfter s arrived) a .state
+device-after-one s [] a = refl
+device-after-one s (x ∷ more) a = device-after-one (turnBy s x .state) more a
+
+-- a recording is a history with 217 bytes lent each time
+abbrev pub turnsTogether : State Books → List LentByte → Session Books
+turnsTogether s arrived = record { gives = allGiven (turnsOf s arrived); carried = allCarried (turnsOf s arrived); state = deviceAfter s arrived }
+
+pub session-turns : (s : State Books) (bytes : List ℕ) → session carry s bytes ≡ turnsTogether s (alwaysLent bytes)
+session-turns s [] = refl
+session-turns s (b ∷ bs) =
+    let t : Turn Books = turn carry s b in
+    ap (λ (z : Session Books). record { gives = t .gives ++ z .gives; carried = t .carried ++ z .carried; state = z .state }) (session-turns (t .state) bs)
+
+-- 70: the field of an answer that shows the drawer is its cash
+cash-shown : (s : Shown) (day : List ℕ) (b : Books) → s ≡ shown.InDrawer → Reached b → cashIn (contentOf s day b) ≡ b .drawer .cash
+cash-shown s day b e r =
+    ap (λ z. cashIn (contentOf z day b)) e
+    ∙ ap (number 0) (take-at (digits 12 (b .drawer .cash)) (commaEach (digits 12 (b .drawer .put) ∷ digits 12 (b .drawer .taken) ∷ [])) 12 (length-digits 12 (b .drawer .cash)))
+    ∙ field-shows 12 (b .drawer .cash) .0 (digits-fit b r .cash)
+
+module _ (s : State Books) (r : Reached (s .books)) (m : Message) (service : Service) (is70 : parsedOf (m .code) (m .content) ≡ Read (Drawer service)) where
+  abbrev Shows : Turn Books → Type 0
+  Shows t = t .carried ≡ m ∷ [] → t .number ≡ 0 → cashIn (dataIn (t .gives)) ≡ t .state .books .drawer .cash
+
+  shows : (next : Place) (n : Message) (x : Parsed) → x ≡ Read (Drawer service) → orderAs s next n x .number ≡ 0 → cashIn (dataIn (answerAs s next n x)) ≡ deedFor (s .books) x .books .drawer .cash
+  shows next n x e z =
+      let d = deedFor (s .books) x in
+      let drawer : d .shown ≡ shown.InDrawer = ap (λ y. deedFor (s .books) y .shown) e ∙ seventy-shows-the-drawer (s .books) service (sym (ap (λ y. deedFor (s .books) y .number) e) ∙ z) in
+      ap cashIn (data-read (n .seq) (n .code) (contentOf (d .shown) (s .books .day) (d .books)) (statusOf (d .number) (d .books)) refl)
+      ∙ cash-shown (d .shown) (s .books .day) (d .books) drawer (deed-reached (s .books) x r)
+
+  pub cash-in-answer : (a : LentByte) → Shows (turnBy s a)
+  cash-in-answer =
+      every-turn Shows s (λ t none same one. let z : _≡_ {A = ℕ} 0 1 = cc in absurd (omega arith))
+      (λ next n one z.
+      let same : m ≡ n = cc in
+      shows next n (parsedOf (n .code) (n .content)) (subst (λ (y : Message). parsedOf (y .code) (y .content) ≡ Read (Drawer service)) same is70) z)

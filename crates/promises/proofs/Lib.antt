@@ -11,4 +11,5 @@ pub mod CodedTill
 pub mod Coded
 pub mod Joining
 pub mod Demand2
+pub mod Telling
 pub mod Demand3

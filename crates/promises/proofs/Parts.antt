@@ -10,7 +10,7 @@ use Rattle.reader.specs.Reading.{Event, nothing, brokenFrame, heard}
 use Rattle.promises.specs.AtDevice.{FromDevice, tells, reads, moved, ByDevice, row-0-taken, row-7}
 use Rattle.promises.specs.Demand1.{Bench, atDevice, fromDevice, benchAfter, ByTheTable, at-device}
 use Rattle.promises.specs.Ends.{ofDevice}
-use Rattle.promises.specs.Coded.{asks, PartByTheTable, not-taken, no-byte, asking-byte, quiet-byte}
+use Rattle.promises.specs.Coded.{isAsking, PartByTheTable, not-taken, no-byte, asking-byte, quiet-byte}
 use Rattle.promises.proofs.DeviceRows.{tableTurn, only-row}
 
 at-the-device : {s : Bench} {buffer : List ℕ} {byte : ℕ} {r : FromDevice} → ByTheTable s (atDevice buffer byte) (fromDevice r) → ByDevice (s .device) buffer byte r
@@ -19,7 +19,7 @@ at-the-device (at-device b) = b
 same : {s : Bench} {buffer : List ℕ} {byte : ℕ} (r other : FromDevice) → ByTheTable s (atDevice buffer byte) (fromDevice r) → ByDevice (s .device) buffer byte other → r ≡ other
 same {s} {buffer} {byte} r other b d = only-row (s .device) buffer byte r (at-the-device b) ∙ sym (only-row (s .device) buffer byte other d)
 
-is-nothing : (e : Event) → asks e ≡ false → e ≡ nothing
+is-nothing : (e : Event) → isAsking e ≡ false → e ≡ nothing
 is-nothing nothing e = refl
 is-nothing brokenFrame e = absurd (false≢true (sym e))
 is-nothing (heard m) e = absurd (false≢true (sym e))
@@ -39,7 +39,7 @@ module _ (buffer : List ℕ) where
   abbrev walk : Bench → List ℕ → Part
   walk s [] = record { taken = 0; reply = tells 0 [] buffer (s .device) }
   walk s (x ∷ xs) =
-      cond (asks (reads (s .device) x .event)) (record { taken = 1; reply = replyTo s x }) (andOne (walk (benchAfter s (fromDevice (replyTo s x))) xs))
+      cond (isAsking (reads (s .device) x .event)) (record { taken = 1; reply = replyTo s x }) (andOne (walk (benchAfter s (fromDevice (replyTo s x))) xs))
 
   abbrev partBy : Bool → Bench → List ℕ → Part
   partBy short s bytes = cond short (record { taken = 0; reply = tells 7 [] buffer (s .device) }) (walk s bytes)
@@ -68,8 +68,8 @@ the-part-is-the-only-one buffer s bytes taken others r other a b =
     let both : _≡_ {A = Part} (record { taken = taken; reply = r }) (record { taken = others; reply = other }) = only-part buffer s bytes taken r a ∙ sym (only-part buffer s bytes others other b) in
     (ap (λ (p : Part). p .taken) both, ap (λ (p : Part). p .reply) both)
 
--- a byte that asks for nothing gives nothing back, leaves every byte of the buffer, and moves the reading place alone
-pub a-quiet-byte : (s : Bench) (buffer : List ℕ) (byte : ℕ) (r : FromDevice) → 217 ≤ length buffer → asks (reads (s .device) byte .event) ≡ false
+-- a byte that isAsking for nothing gives nothing back, leaves every byte of the buffer, and moves the reading place alone
+pub a-quiet-byte : (s : Bench) (buffer : List ℕ) (byte : ℕ) (r : FromDevice) → 217 ≤ length buffer → isAsking (reads (s .device) byte .event) ≡ false
     → ByTheTable s (atDevice buffer byte) (fromDevice r) → r ≡ tells 0 [] buffer (moved (s .device) byte)
 a-quiet-byte s buffer byte r room quiet b =
     same r (tells 0 [] buffer (moved (s .device) byte)) b (row-0-taken room (is-nothing (reads (s .device) byte .event) quiet))

@@ -54,8 +54,8 @@ abbrev pub unsendable : till.State → ℕ → List ℕ → Bool
 unsendable s code content = isWaiting (s .pending) || not (sendable Command (commandOf (s .next) code content))
 
 -- "no command waits any more": the SEQ of the next command stays
-abbrev pub atRest : till.State → till.State
-atRest s = record { next = s .next; pending = till.idle }
+abbrev pub noneWaits : till.State → till.State
+noneWaits s = record { next = s .next; pending = till.idle }
 
 -- a command that waits: its SEQ, CMD and frame, how often the frame was handed out, and where reading of its answer stands
 abbrev pub waitsOn : till.State → (seq code : ℕ) → List ℕ → ℕ → Place → till.State
@@ -81,7 +81,7 @@ pub data ByTill (s : till.State) (buffer : List ℕ) : till.Happening → FromTi
   row-0-answered : (b seq code : ℕ) (bytes : List ℕ) (tries : ℕ) (place : Place) (m : Message) → 210 ≤ length buffer
       → s .pending ≡ till.waits seq code bytes tries place → till.byteMeans seq code place b ≡ till.answers m
       → ByTill s buffer (till.byte b)
-      (replies 0 (Answered (length (m .content ++ m .status))) (length (m .content ++ m .status)) (m .content ++ m .status) buffer (atRest s))
+      (replies 0 (Answered (length (m .content ++ m .status))) (length (m .content ++ m .status)) (m .content ++ m .status) buffer (noneWaits s))
   -- 7 "lent buffer too short (till end 210)": "nothing"; "everything; the byte, timeout or command is not taken"
   row-7 : {h : till.Happening} → length buffer < 210 → ByTill s buffer h (replies 7 TooShort 0 [] buffer s)
   -- 8 "can't be sent": "nothing"; "everything"
@@ -90,4 +90,4 @@ pub data ByTill (s : till.State) (buffer : List ℕ) : till.Happening → FromTi
   -- 9 "Unfinished": the fifth try fails; "the number of tries, 5"; "the command waiting is given up"
   row-9 : {h : till.Happening} (seq code : ℕ) (bytes : List ℕ) (place : Place) → 210 ≤ length buffer
       → s .pending ≡ till.waits seq code bytes 5 place → fails seq code place h ≡ true
-      → ByTill s buffer h (replies 9 (Unfinished 5) 5 [] buffer (atRest s))
+      → ByTill s buffer h (replies 9 (Unfinished 5) 5 [] buffer (noneWaits s))

@@ -25,7 +25,7 @@ use Rattle.promises.specs.AtTill.{FromTill}
 use Rattle.promises.specs.Demand1.{Bench, atDevice, atTill, fromDevice, fromTill, benchAfter, ByTheTable}
 
 -- what is handed from call to call: the device's line, books and two arrays, the till end's fields and two arrays
-pub record Handed : Type 0 where
+pub record Machines : Type 0 where
   pub line : Line
   pub books : Books
   pub frame : List ℕ
@@ -35,7 +35,7 @@ pub record Handed : Type 0 where
   pub answer : List ℕ
 
 -- as `line::fresh`, `books::fresh` and `till::fresh` give them, with arrays of any contents
-pub record Fresh (f : Handed) : Type 0 where
+pub record Fresh (f : Machines) : Type 0 where
   pub line : f .line ≡ record { reader = readerOf outside; previous = Nothing }
   pub books : f .books ≡ freshBooks
   pub frame : length (f .frame) ≡ 256
@@ -45,7 +45,7 @@ pub record Fresh (f : Handed) : Type 0 where
   pub answer : length (f .answer) ≡ 256
 
 -- the state of both ends that they say
-abbrev pub benchOf : Handed → Bench
+abbrev pub benchOf : Machines → Bench
 benchOf f = record { device = device.stateOf (f .line) (f .books) (f .frame) (f .last); till = fields.stateOf (f .till) (f .sent) (f .answer) }
 
 pub data CodeCall : Type 0 where
@@ -53,24 +53,24 @@ pub data CodeCall : Type 0 where
   happens : (buffer : List ℕ) (h : till.Happening) → CodeCall
 
 -- what the promises say of a call
-abbrev pub partAfter : Handed → (buffer bytes : List ℕ) → PartHeard
+abbrev pub partAfter : Machines → (buffer bytes : List ℕ) → PartHeard
 partAfter f buffer bytes = afterPart (f .line) (f .books) (f .frame) (f .last) buffer bytes
 
-abbrev pub turnAfter : Handed → List ℕ → till.Happening → till.Turn
+abbrev pub turnAfter : Machines → List ℕ → till.Happening → till.Turn
 turnAfter f buffer h = fields.turnOf (f .till) (f .sent) (f .answer) buffer h
 
 -- the till end's arrays: `command` is lent the one for the frame to write, `byte` the one for the answer; no other call writes in them
-abbrev pub sentAfter : Handed → List ℕ → till.Happening → List ℕ
+abbrev pub sentAfter : Machines → List ℕ → till.Happening → List ℕ
 sentAfter f buffer (till.command code content) = fields.framed (f .sent) (turnAfter f buffer (till.command code content) .state .pending)
 sentAfter f buffer (till.byte b) = f .sent
 sentAfter f buffer till.timeout = f .sent
 
-abbrev pub answerAfter : Handed → List ℕ → till.Happening → List ℕ
+abbrev pub answerAfter : Machines → List ℕ → till.Happening → List ℕ
 answerAfter f buffer (till.command code content) = f .answer
-answerAfter f buffer (till.byte b) = fields.readIn (f .answer) (turnAfter f buffer (till.byte b) .state .pending)
+answerAfter f buffer (till.byte b) = fields.heldIn (f .answer) (turnAfter f buffer (till.byte b) .state .pending)
 answerAfter f buffer till.timeout = f .answer
 
-abbrev pub handedOn : Handed → CodeCall → Handed
+abbrev pub handedOn : Machines → CodeCall → Machines
 handedOn f (hear buffer bytes) =
     let p = partAfter f buffer bytes in
     record { line = p .hearing .given .line; books = p .hearing .given .books; frame = p .frame; last = p .last; till = f .till; sent = f .sent; answer = f .answer }
@@ -104,7 +104,7 @@ givenIn TooShort = 0
 givenIn NotSent = 0
 
 -- and so of the till end's
-pub record TillResult (f : Handed) (lent : List ℕ) (h : till.Happening) (r : FromTill) : Type 0 where
+pub record TillResult (f : Machines) (lent : List ℕ) (h : till.Happening) (r : FromTill) : Type 0 where
   pub word : fields.saidOf (f .till) (turnAfter f lent h) .word ≡ r .word
   pub number : numberOf (turnAfter f lent h .word) ≡ r .number
   pub count : countOf (turnAfter f lent h .word) ≡ r .count
@@ -113,10 +113,10 @@ pub record TillResult (f : Handed) (lent : List ℕ) (h : till.Happening) (r : F
   pub state : benchOf (handedOn f (happens lent h)) .till ≡ r .till
 
 -- a byte that breaks a frame or ends one asks for something
-abbrev pub asks : Event → Bool
-asks nothing = false
-asks brokenFrame = true
-asks (heard m) = true
+abbrev pub isAsking : Event → Bool
+isAsking nothing = false
+isAsking brokenFrame = true
+isAsking (heard m) = true
 
 -- a part of bytes by the table, with how many of them are taken and the reply to the last of these: every byte before it is taken with nothing given back
 pub data PartByTheTable (buffer : List ℕ) : Bench → List ℕ → ℕ → FromDevice → Type 0 where
@@ -125,18 +125,18 @@ pub data PartByTheTable (buffer : List ℕ) : Bench → List ℕ → ℕ → Fro
       → PartByTheTable buffer s bytes 0 r
   no-byte : {s : Bench} → 217 ≤ length buffer → PartByTheTable buffer s [] 0 (tells 0 [] buffer (s .device))
   -- the first that asks for something ends the call
-  asking-byte : {s : Bench} {byte : ℕ} {bytes : List ℕ} {r : FromDevice} → 217 ≤ length buffer → asks (reads (s .device) byte .event) ≡ true
+  asking-byte : {s : Bench} {byte : ℕ} {bytes : List ℕ} {r : FromDevice} → 217 ≤ length buffer → isAsking (reads (s .device) byte .event) ≡ true
       → ByTheTable s (atDevice buffer byte) (fromDevice r) → PartByTheTable buffer s (byte ∷ bytes) 1 r
-  quiet-byte : {s : Bench} {byte taken : ℕ} {bytes : List ℕ} {after r : FromDevice} → 217 ≤ length buffer → asks (reads (s .device) byte .event) ≡ false
+  quiet-byte : {s : Bench} {byte taken : ℕ} {bytes : List ℕ} {after r : FromDevice} → 217 ≤ length buffer → isAsking (reads (s .device) byte .event) ≡ false
       → ByTheTable s (atDevice buffer byte) (fromDevice after) → PartByTheTable buffer (benchAfter s (fromDevice after)) bytes taken r
       → PartByTheTable buffer s (byte ∷ bytes) (taken + 1) r
 
 -- calls one after the other: at both ends as the table leaves them, and on the fields and arrays as the code leaves them
-pub data CodeByTheTable : Bench → Handed → List CodeCall → Type 0 where
-  no-call : {s : Bench} {f : Handed} → CodeByTheTable s f []
-  device-call : {s : Bench} {f : Handed} {buffer bytes : List ℕ} {calls : List CodeCall} (r : FromDevice)
+pub data CodeByTheTable : Bench → Machines → List CodeCall → Type 0 where
+  no-call : {s : Bench} {f : Machines} → CodeByTheTable s f []
+  device-call : {s : Bench} {f : Machines} {buffer bytes : List ℕ} {calls : List CodeCall} (r : FromDevice)
       → PartByTheTable buffer s bytes (partAfter f buffer bytes .hearing .taken) r → DeviceResult (partAfter f buffer bytes) r
       → CodeByTheTable (benchAfter s (fromDevice r)) (handedOn f (hear buffer bytes)) calls → CodeByTheTable s f (hear buffer bytes ∷ calls)
-  till-call : {s : Bench} {f : Handed} {buffer : List ℕ} {h : till.Happening} {calls : List CodeCall} (r : FromTill)
+  till-call : {s : Bench} {f : Machines} {buffer : List ℕ} {h : till.Happening} {calls : List CodeCall} (r : FromTill)
       → ByTheTable s (atTill buffer h) (fromTill r) → TillResult f buffer h r
       → CodeByTheTable (benchAfter s (fromTill r)) (handedOn f (happens buffer h)) calls → CodeByTheTable s f (happens buffer h ∷ calls)

@@ -1,30 +1,80 @@
--- Demand 2: "Cash equals all that was put in less all that was taken out, over the whole history." What the statements speak of: a recording
--- heard by a fresh device, and the commands it carried out, each with its reply, newest first.
-use Prim.Native.Nat.{ℕ}
-use mathlib.Core.List.{List, [], _∷_}
+-- Demand 2: "Cash equals all that was put in less all that was taken out, over the whole history." What the statements speak of: any bytes that
+-- arrive at a fresh device, each with some buffer lent, and what its turns gave back.
+use Prim.Native.Nat.{ℕ, _-_}
+use mathlib.Core.List.{List, [], _∷_, _++_, map}
+use lib.ListN.{length, take, drop}
+use Rattle.text.specs.Digits.{number}
 use Rattle.wire.specs.Frame.{Message}
-use Rattle.kinds.specs.declared.Command.{Command}
 use Rattle.kinds.specs.declared.Parsed.{Parsed}
 use Rattle.kinds.specs.declared.Parsed.the-variants.{Read, Syntax, Unknown}
 use Rattle.command.specs.Commands.{parsedOf}
+use Rattle.books.specs.Books.{freshBooks}
 use Rattle.books.specs.declared.Books.{Books}
-use Rattle.history.specs.Entries.{Entry, historyOf}
-use Rattle.device.specs.Recording.{recording}
+use Rattle.history.specs.Entries.{Entry}
+use Rattle.line.specs.Turns.{State, Turn, switchedOn}
+use Rattle.device.specs.Device.{lentTurn}
 
--- the commands among the frames carried out; syntax (1) and unknown commands (2) are none
-abbrev pub withRead : Parsed → List Command → List Command
-withRead (Read c) cs = c ∷ cs
-withRead Syntax cs = cs
-withRead Unknown cs = cs
+-- a byte that arrives, and the length of the buffer lent for it
+pub record LentByte : Type 0 where
+  pub room : ℕ
+  pub byte : ℕ
 
-abbrev pub readIn : List Message → List Command
-readIn [] = []
-readIn (m ∷ ms) = withRead (parsedOf (m .code) (m .content)) (readIn ms)
+-- a recording: the device "is always lent its 217 bytes"
+abbrev pub alwaysLent : List ℕ → List LentByte
+alwaysLent = map (λ b. record { room = 217; byte = b })
 
--- what a recording carried out, with the replies
-abbrev pub entriesOf : List ℕ → List Entry
-entriesOf bytes = historyOf (readIn (recording bytes .carried)) .entries
+abbrev pub turnBy : State Books → LentByte → Turn Books
+turnBy s a = lentTurn (a .room) s (a .byte)
 
--- and the books it led to
-abbrev pub booksAfter : List ℕ → Books
-booksAfter bytes = recording bytes .state .books
+-- the turns of a device, byte for byte, and the device behind them
+abbrev pub turnsOf : State Books → List LentByte → List (Turn Books)
+turnsOf s [] = []
+turnsOf s (a ∷ more) = turnBy s a ∷ turnsOf (turnBy s a .state) more
+
+abbrev pub deviceAfter : State Books → List LentByte → State Books
+deviceAfter s [] = s
+deviceAfter s (a ∷ more) = deviceAfter (turnBy s a .state) more
+
+-- all that turns gave back, and the commands they carried out
+abbrev pub allGiven : List (Turn Books) → List ℕ
+allGiven [] = []
+allGiven (t ∷ ts) = t .gives ++ allGiven ts
+
+abbrev pub allCarried : List (Turn Books) → List Message
+allCarried [] = []
+allCarried (t ∷ ts) = t .carried ++ allCarried ts
+
+-- the data of an answer: 01h, LEN, SEQ and CMD stand before it; 04h, six status bytes, 05h, four of BCC and 03h behind it
+abbrev pub dataIn : List ℕ → List ℕ
+dataIn answer = take (length answer - 17) (drop 4 answer)
+
+-- what a turn tells of the command it carried out: the turn's own reply number, and the data of the answer it gave back. Syntax (1) and unknown
+-- commands (2) are no commands
+abbrev pub withRead : Turn Books → Parsed → List Entry → List Entry
+withRead t (Read c) es = record { command = c; number = t .number; shown = dataIn (t .gives) } ∷ es
+withRead t Syntax es = es
+withRead t Unknown es = es
+
+-- a turn that carried out nothing tells nothing: a byte within a frame, NAK, a repeat, 7
+abbrev pub withTurn : Turn Books → List Message → List Entry → List Entry
+withTurn t [] es = es
+withTurn t (m ∷ ms) es = withTurn t ms (withRead t (parsedOf (m .code) (m .content)) es)
+
+-- the entries told from the turns alone, newest first
+abbrev pub toldBy : List Entry → List (Turn Books) → List Entry
+toldBy es [] = es
+toldBy es (t ∷ ts) = toldBy (withTurn t (t .carried) es) ts
+
+-- of a fresh device: its entries, and the books it is left with
+abbrev pub freshDevice : State Books
+freshDevice = switchedOn freshBooks
+
+abbrev pub entriesOf : List LentByte → List Entry
+entriesOf arrived = toldBy [] (turnsOf freshDevice arrived)
+
+abbrev pub booksAfter : List LentByte → Books
+booksAfter arrived = deviceAfter freshDevice arrived .books
+
+-- 70 answers "`P,Cash,In,Out`": Cash, "12" digits behind `P,`, read back as a number
+abbrev pub cashIn : List ℕ → ℕ
+cashIn content = number 0 (take 12 (drop 2 content))

@@ -15,7 +15,7 @@ use Rattle.till.specs.Turns as till
 use Rattle.till.specs.Words.{numberOf, countOf}
 use Rattle.till.specs.declared.Word.the-variants.{Unfinished}
 use Rattle.promises.specs.AtDevice.{FromDevice, tells, remembers, NewCommand, answerWith}
-use Rattle.promises.specs.AtTill.{FromTill, replies, fails, atRest}
+use Rattle.promises.specs.AtTill.{FromTill, replies, fails, noneWaits}
 use Rattle.promises.specs.Demand1.{Bench, Comes, atDevice, atTill, Outcome, fromDevice, fromTill, benchAfter}
 
 abbrev pub ofDevice : List ℕ → line.Turn Books → FromDevice
@@ -47,4 +47,4 @@ pub data Beyond (s : Bench) : Comes → Outcome → Type 0 where
       (remembers (s .device) byte m (answerWith m [] 0xA0 0x83 (s .device .books)) (s .device .books))))
   more-tries : {buffer : List ℕ} {h : till.Happening} (seq code : ℕ) (bytes : List ℕ) (tries : ℕ) (place : Place) → 210 ≤ length buffer
       → s .till .pending ≡ till.waits seq code bytes tries place → fails seq code place h ≡ true → 5 < tries
-      → Beyond s (atTill buffer h) (fromTill (replies 9 (Unfinished tries) tries [] buffer (atRest (s .till))))
+      → Beyond s (atTill buffer h) (fromTill (replies 9 (Unfinished tries) tries [] buffer (noneWaits (s .till))))

@@ -4,3 +4,4 @@ pub mod Demand1
 pub mod Ends
 pub mod Coded
 pub mod Demand2
+pub mod Demand3

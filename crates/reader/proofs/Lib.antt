@@ -5,3 +5,4 @@ pub mod Walking
 pub mod RoundTrip
 pub mod BuiltOnly
 pub mod History
+pub mod Holding

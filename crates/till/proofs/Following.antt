@@ -18,12 +18,12 @@ use Rattle.reader.proofs.RoundTrip.{frame-size}
 use Rattle.reader.proofs.Running.{bytesOf, place-back, read-room}
 use Rattle.till.specs.Words.{numberOf}
 use Rattle.till.specs.Turns.{Pending, idle, waits, State, freshState, Happening, command, byte, timeout, Turn, stays, sent, Meaning, failed, goesOn, answers, byteMeans, onMeaning}
-use Rattle.till.specs.Fields.{pendingOf, stateOf, tillOf, framed, readIn, refused, saidOf, turnOf}
+use Rattle.till.specs.Fields.{pendingOf, stateOf, tillOf, framed, heldIn, refused, saidOf, turnOf}
 use Rattle.till.specs.Promises.{Bytes}
 use Rattle.till.specs.Private.{failedBy, heardBy, sentBy}
 use Rattle.till.specs.declared.Attempt.{Attempt}
-use Rattle.till.specs.declared.Sent.{Sent}
-use Rattle.till.specs.declared.Sent.the-variants.{Free, Held}
+use Rattle.till.specs.declared.Slot.{Slot}
+use Rattle.till.specs.declared.Slot.the-variants.{Free, Held}
 use Rattle.till.specs.declared.Till.{Till}
 use Rattle.till.specs.declared.Word.{Word}
 use Rattle.till.specs.declared.Word.the-variants.{Idle, TooShort, NotSent}
@@ -67,10 +67,10 @@ module _ (next : ℕ) (a : Attempt) (frame-in answer-in : List ℕ) (small : (a 
   roomy-byte b (answers m) e = tt
 
 made : (s : State) (frame answer : List ℕ) → length frame ≡ 256 → length answer ≡ 256 → Roomy (s .pending)
-    → stateOf (tillOf s) (framed frame (s .pending)) (readIn answer (s .pending)) ≡ s
+    → stateOf (tillOf s) (framed frame (s .pending)) (heldIn answer (s .pending)) ≡ s
 made s frame answer sf sa roomy = go (s .pending) roomy
   where
-    go : (p : Pending) → Roomy p → stateOf (tillOf (record { next = s .next; pending = p })) (framed frame p) (readIn answer p) ≡ record { next = s .next; pending = p }
+    go : (p : Pending) → Roomy p → stateOf (tillOf (record { next = s .next; pending = p })) (framed frame p) (heldIn answer p) ≡ record { next = s .next; pending = p }
     go idle h = refl
     go (waits seq code bytes tries place) h =
         let held : take (length bytes) (sets frame 0 bytes) ≡ bytes =
@@ -78,24 +78,24 @@ made s frame answer sf sa roomy = go (s .pending) roomy
         let read-back : placeOf (readerOf place) (keptIn answer place) ≡ place = place-back answer place (omega (arith, h .1)) in
         λ i. record { next = s .next; pending = waits seq code (held i) tries (read-back i) }
 
-module _ (t : Till) (frame-in answer-in : List ℕ) (sf : length frame-in ≡ 256) (sa : length answer-in ≡ 256) (bytes-in : Bytes (t .sent)) where
+module _ (t : Till) (frame-in answer-in : List ℕ) (sf : length frame-in ≡ 256) (sa : length answer-in ≡ 256) (bytes-in : Bytes (t .slot)) where
   abbrev Follows : Turn → Type 0
-  Follows x = stateOf (saidOf t x .till) (framed frame-in (x .state .pending)) (readIn answer-in (x .state .pending)) ≡ x .state
+  Follows x = stateOf (saidOf t x .till) (framed frame-in (x .state .pending)) (heldIn answer-in (x .state .pending)) ≡ x .state
 
   follows-stays : (word : Word) → refused (numberOf word) ≡ true → Follows (stays word (stateOf t frame-in answer-in))
   follows-stays word e =
-      ap (λ r. stateOf (cond r t (tillOf (stateOf t frame-in answer-in))) (framed frame-in (pendingOf (t .sent) frame-in answer-in)) (readIn answer-in (pendingOf (t .sent) frame-in answer-in))) e
-      ∙ ap (λ z. stateOf t z (readIn answer-in (pendingOf (t .sent) frame-in answer-in))) (sym (framed-same (t .sent) frame-in answer-in))
-      ∙ ap (λ z. stateOf t frame-in z) (sym (read-same (t .sent) frame-in answer-in))
+      ap (λ r. stateOf (cond r t (tillOf (stateOf t frame-in answer-in))) (framed frame-in (pendingOf (t .slot) frame-in answer-in)) (heldIn answer-in (pendingOf (t .slot) frame-in answer-in))) e
+      ∙ ap (λ z. stateOf t z (heldIn answer-in (pendingOf (t .slot) frame-in answer-in))) (sym (framed-same (t .slot) frame-in answer-in))
+      ∙ ap (λ z. stateOf t frame-in z) (sym (read-same (t .slot) frame-in answer-in))
 
   follows-made : (x : Turn) → refused (numberOf (x .word)) ≡ false → Roomy (x .state .pending) → Follows x
   follows-made x e roomy =
-      ap (λ r. stateOf (cond r t (tillOf (x .state))) (framed frame-in (x .state .pending)) (readIn answer-in (x .state .pending))) e
+      ap (λ r. stateOf (cond r t (tillOf (x .state))) (framed frame-in (x .state .pending)) (heldIn answer-in (x .state .pending))) e
       ∙ made (x .state) frame-in answer-in sf sa roomy
 
   -- each kind of turn
   module _ (buf : List ℕ) (big : 210 ≤ length buf) where
-    free-sent : (code : ℕ) (content : List ℕ) → t .sent ≡ Free → Follows (sentBy (t .next) code content)
+    free-sent : (code : ℕ) (content : List ℕ) → t .slot ≡ Free → Follows (sentBy (t .next) code content)
     free-sent code content e = go (sendable Command (commandOf (t .next) code content)) refl
       where
         go : (s : Bool) → sendable Command (commandOf (t .next) code content) ≡ s
@@ -105,14 +105,14 @@ module _ (t : Till) (frame-in answer-in : List ℕ) (sf : length frame-in ≡ 25
             (omega (arith, frame-size Command (commandOf (t .next) code content) es .1), omega arith)
         go false es = ap (λ z. record { next = t .next; pending = pendingOf z frame-in answer-in }) e
 
-    free : t .sent ≡ Free → (h : Happening) → Follows (turnOf t frame-in answer-in buf h)
+    free : t .slot ≡ Free → (h : Happening) → Follows (turnOf t frame-in answer-in buf h)
     free e (command code content) = subst Follows (sym (command-free t frame-in answer-in buf big code content e)) (free-sent code content e)
     free e (byte b) = subst Follows (sym (byte-idle t frame-in answer-in buf big b e))
         (follows-made (stays Idle (stateOf t frame-in answer-in)) refl (subst (λ z. Roomy (pendingOf z frame-in answer-in)) (sym e) tt))
     free e timeout = subst Follows (sym (timeout-idle t frame-in answer-in buf big e))
         (follows-made (stays Idle (stateOf t frame-in answer-in)) refl (subst (λ z. Roomy (pendingOf z frame-in answer-in)) (sym e) tt))
 
-    waiting : (a : Attempt) → t .sent ≡ Held a → (a .count < 256) × (a .reader .count < 256) → (h : Happening) → Follows (turnOf t frame-in answer-in buf h)
+    waiting : (a : Attempt) → t .slot ≡ Held a → (a .count < 256) × (a .reader .count < 256) → (h : Happening) → Follows (turnOf t frame-in answer-in buf h)
     waiting a e small (command code content) = subst Follows (sym (command-held t frame-in answer-in buf big code content a e)) (follows-stays NotSent refl)
     waiting a e small (byte b) =
         let means : Meaning = byteMeans (a .seq) (a .code) (placeOf (a .reader) answer-in) b in
@@ -127,16 +127,16 @@ module _ (t : Till) (frame-in answer-in : List ℕ) (sf : length frame-in ≡ 25
   -- the theorem: the fields and arrays that a turn leaves say the state that it leaves
   pub fields-follow : (buf : List ℕ) (h : Happening)
       → let x = turnOf t frame-in answer-in buf h in
-      stateOf (saidOf t x .till) (framed frame-in (x .state .pending)) (readIn answer-in (x .state .pending)) ≡ x .state
+      stateOf (saidOf t x .till) (framed frame-in (x .state .pending)) (heldIn answer-in (x .state .pending)) ≡ x .state
   fields-follow buf h = go (ltb (length buf) 210) refl
     where
-      by : 210 ≤ length buf → (z : Sent) → t .sent ≡ z → Bytes z → Follows (turnOf t frame-in answer-in buf h)
+      by : 210 ≤ length buf → (z : Slot) → t .slot ≡ z → Bytes z → Follows (turnOf t frame-in answer-in buf h)
       by big Free e small = free buf big e h
       by big (Held a) e small = waiting buf big a e small h
 
       go : (s : Bool) → ltb (length buf) 210 ≡ s → Follows (turnOf t frame-in answer-in buf h)
       go true e = subst Follows (sym (too-short t frame-in answer-in buf h (ltb-true (length buf) 210 e))) (follows-stays TooShort refl)
-      go false e = by (ltb-false (length buf) 210 e) (t .sent) refl bytes-in
+      go false e = by (ltb-false (length buf) 210 e) (t .slot) refl bytes-in
 
 -- and a fresh till end's say the fresh state, whatever the arrays hold
 pub fresh-follows : (frame-in answer-in : List ℕ) → stateOf (tillOf freshState) frame-in answer-in ≡ freshState

@@ -18,7 +18,7 @@ use Rattle.reader.proofs.Walking.{run-first}
 use Rattle.reader.proofs.Steps.{read-start}
 use Rattle.reader.proofs.RoundTrip.{Parts, parts, read-what-was-built}
 use Rattle.till.specs.Turns.{Pending, idle, waits, State, byte, Turn, stays, gives, failed, readAs, nakOutside, onMeaning}
-use Rattle.till.specs.History.{says, behind, history, line, words, given}
+use Rattle.till.specs.History.{says, behind, history, heardBytes, words, putsOf}
 use Rattle.till.specs.declared.Word.the-variants.{Waiting, Answered}
 use Rattle.till.proofs.Answers.{heard-answers}
 
@@ -99,16 +99,16 @@ module _ (next seq code : ℕ) (bytes : List ℕ) (tries : ℕ) where
   -- a run of bytes, heard
   abbrev Heard : State → List ℕ → ℕ → Message → Type 0
   Heard s bs n m =
-      (words (history s (line bs)) ≡ replicate n (Waiting 0) ++ Answered (length (m .content ++ m .status)) ∷ [])
-      × ((given (history s (line bs)) ≡ replicate n [] ++ (m .content ++ m .status) ∷ []) × (behind s (line bs) ≡ done))
+      (words (history s (heardBytes bs)) ≡ replicate n (Waiting 0) ++ Answered (length (m .content ++ m .status)) ∷ [])
+      × ((putsOf (history s (heardBytes bs)) ≡ replicate n [] ++ (m .content ++ m .status) ∷ []) × (behind s (heardBytes bs) ≡ done))
 
   one-more : (s t : State) (b : ℕ) (bs : List ℕ) (n : ℕ) (m : Message) → says s (record { size = 210; happens = byte b }) ≡ stays (Waiting 0) t
       → Heard t bs n m → Heard s (b ∷ bs) (suc n) m
   one-more s t b bs n m e h = (
-    ap (λ (z : Turn). z .word ∷ words (history (z .state) (line bs))) e ∙ ap (λ z. Waiting 0 ∷ z) (h .0),
+    ap (λ (z : Turn). z .word ∷ words (history (z .state) (heardBytes bs))) e ∙ ap (λ z. Waiting 0 ∷ z) (h .0),
     (
-      ap (λ (z : Turn). z .puts ∷ given (history (z .state) (line bs))) e ∙ ap (λ z. [] ∷ z) (h .1 .0),
-      ap (λ (z : Turn). behind (z .state) (line bs)) e ∙ h .1 .1,
+      ap (λ (z : Turn). z .puts ∷ putsOf (history (z .state) (heardBytes bs))) e ∙ ap (λ z. [] ∷ z) (h .1 .0),
+      ap (λ (z : Turn). behind (z .state) (heardBytes bs)) e ∙ h .1 .1,
     ),
   )
 
@@ -138,9 +138,9 @@ module _ (next seq code : ℕ) (bytes : List ℕ) (tries : ℕ) where
 -- the theorem
 pub answer-heard : (s : State) (seq code : ℕ) (bytes : List ℕ) (tries : ℕ) (place : Place) → s .pending ≡ waits seq code bytes tries place
     → (m : Message) → sendable Answer m ≡ true → m .seq ≡ seq → m .code ≡ code
-    → (words (history s (line (frame Answer m))) ≡ replicate (length (frame Answer m) - 1) (Waiting 0) ++ Answered (length (m .content ++ m .status)) ∷ [])
-    × ((given (history s (line (frame Answer m))) ≡ replicate (length (frame Answer m) - 1) [] ++ (m .content ++ m .status) ∷ [])
-    × (behind s (line (frame Answer m)) ≡ record { next = s .next; pending = idle }))
+    → (words (history s (heardBytes (frame Answer m))) ≡ replicate (length (frame Answer m) - 1) (Waiting 0) ++ Answered (length (m .content ++ m .status)) ∷ [])
+    × ((putsOf (history s (heardBytes (frame Answer m))) ≡ replicate (length (frame Answer m) - 1) [] ++ (m .content ++ m .status) ∷ [])
+    × (behind s (heardBytes (frame Answer m)) ≡ record { next = s .next; pending = idle }))
 answer-heard s seq code bytes tries place e m can es ec =
     let size : suc (length (inner Answer m) + 8) ≡ length (frame Answer m) - 1 = omega (arith, length-enclosed (m .seq) (m .code) (inner Answer m)) in
     subst (λ (p : Pending). Heard (s .next) seq code bytes tries (record { next = s .next; pending = p }) (frame Answer m) (length (frame Answer m) - 1) m) (sym e)

@@ -8,3 +8,5 @@ pub mod Room
 pub mod Frames
 pub mod Following
 pub mod Examples
+pub mod Handing
+pub mod Fifth

@@ -21,12 +21,12 @@ use Rattle.reader.specs.Fields.{placeOf, readerOf, keptIn}
 use Rattle.reader.specs.declared.Reader.{Reader}
 use Rattle.till.specs.Words.{numberOf}
 use Rattle.till.specs.Turns.{idle, waits, Turn, Happening, command, byte, timeout, Meaning, failed, goesOn, answers, stays, gives, onMeaning, onByte, onTimeout, onCommand, sent, seqAfter, takes}
-use Rattle.till.specs.Fields.{pendingOf, stateOf, sentOf, tillOf, framed, readIn, refused, saidOf, turnOf}
+use Rattle.till.specs.Fields.{pendingOf, stateOf, slotOf, tillOf, framed, heldIn, refused, saidOf, turnOf}
 use Rattle.till.specs.Private.{toldOf, failedBy, heardBy, sentBy}
 use Rattle.till.specs.declared.Attempt.{Attempt}
 use Rattle.till.specs.declared.Said.{Said}
-use Rattle.till.specs.declared.Sent.{Sent}
-use Rattle.till.specs.declared.Sent.the-variants.{Free, Held}
+use Rattle.till.specs.declared.Slot.{Slot}
+use Rattle.till.specs.declared.Slot.the-variants.{Free, Held}
 use Rattle.till.specs.declared.Till.{Till}
 use Rattle.till.specs.declared.Word.{Word}
 use Rattle.till.specs.declared.Word.the-variants.{Idle, Waiting, SendAgain, Unfinished, TooShort, NotSent}
@@ -39,11 +39,11 @@ kept-same r answer = go (r .inside)
     go true = sym (sets-same 0 (r .count) answer)
     go false = refl
 
-pub read-same : (s : Sent) (frame answer : List ℕ) → answer ≡ readIn answer (pendingOf s frame answer)
+pub read-same : (s : Slot) (frame answer : List ℕ) → answer ≡ heldIn answer (pendingOf s frame answer)
 read-same Free frame answer = refl
 read-same (Held a) frame answer = kept-same (a .reader) answer
 
-pub framed-same : (s : Sent) (frame answer : List ℕ) → frame ≡ framed frame (pendingOf s frame answer)
+pub framed-same : (s : Slot) (frame answer : List ℕ) → frame ≡ framed frame (pendingOf s frame answer)
 framed-same Free frame answer = refl
 framed-same (Held a) frame answer = sym (sets-same 0 (a .count) frame)
 
@@ -56,22 +56,22 @@ module _ (t : Till) (frame answer buf : List ℕ) where
     taken : (h : Happening) → turnOf t frame answer buf h ≡ takes (stateOf t frame answer) h
     taken h = ap (λ c. cond c (stays TooShort (stateOf t frame answer)) (takes (stateOf t frame answer) h)) (le-ltb (length buf) 210 room)
 
-    pub byte-idle : (b : ℕ) → t .sent ≡ Free → turnOf t frame answer buf (byte b) ≡ stays Idle (stateOf t frame answer)
+    pub byte-idle : (b : ℕ) → t .slot ≡ Free → turnOf t frame answer buf (byte b) ≡ stays Idle (stateOf t frame answer)
     byte-idle b e = taken (byte b) ∙ ap (λ z. onByte (stateOf t frame answer) (pendingOf z frame answer) b) e
 
-    pub byte-held : (b : ℕ) (a : Attempt) → t .sent ≡ Held a → turnOf t frame answer buf (byte b) ≡ heardBy (t .next) a frame answer b
+    pub byte-held : (b : ℕ) (a : Attempt) → t .slot ≡ Held a → turnOf t frame answer buf (byte b) ≡ heardBy (t .next) a frame answer b
     byte-held b a e = taken (byte b) ∙ ap (λ z. onByte (stateOf t frame answer) (pendingOf z frame answer) b) e
 
-    pub timeout-idle : t .sent ≡ Free → turnOf t frame answer buf timeout ≡ stays Idle (stateOf t frame answer)
+    pub timeout-idle : t .slot ≡ Free → turnOf t frame answer buf timeout ≡ stays Idle (stateOf t frame answer)
     timeout-idle e = taken timeout ∙ ap (λ z. onTimeout (stateOf t frame answer) (pendingOf z frame answer)) e
 
-    pub timeout-held : (a : Attempt) → t .sent ≡ Held a → turnOf t frame answer buf timeout ≡ failedBy (t .next) a frame
+    pub timeout-held : (a : Attempt) → t .slot ≡ Held a → turnOf t frame answer buf timeout ≡ failedBy (t .next) a frame
     timeout-held a e = taken timeout ∙ ap (λ z. onTimeout (stateOf t frame answer) (pendingOf z frame answer)) e
 
-    pub command-held : (code : ℕ) (content : List ℕ) (a : Attempt) → t .sent ≡ Held a → turnOf t frame answer buf (command code content) ≡ stays NotSent (stateOf t frame answer)
+    pub command-held : (code : ℕ) (content : List ℕ) (a : Attempt) → t .slot ≡ Held a → turnOf t frame answer buf (command code content) ≡ stays NotSent (stateOf t frame answer)
     command-held code content a e = taken (command code content) ∙ ap (λ z. onCommand (stateOf t frame answer) (pendingOf z frame answer) code content) e
 
-    pub command-free : (code : ℕ) (content : List ℕ) → t .sent ≡ Free → turnOf t frame answer buf (command code content) ≡ sentBy (t .next) code content
+    pub command-free : (code : ℕ) (content : List ℕ) → t .slot ≡ Free → turnOf t frame answer buf (command code content) ≡ sentBy (t .next) code content
     command-free code content e =
         taken (command code content)
         ∙ ap (λ z. onCommand (record { next = t .next; pending = pendingOf z frame answer }) (pendingOf z frame answer) code content) e
@@ -82,10 +82,10 @@ pub all-stays : (t : Till) (frame answer : List ℕ) (word : Word) → refused (
 all-stays t frame answer word e = ap (λ c. record { till = cond c t (tillOf (stateOf t frame answer)); word = word }) (sym e)
 
 -- Idle "changes nothing"
-pub idle-stays : (t : Till) (frame answer : List ℕ) → t .sent ≡ Free → record { till = t; word = Idle } ≡ saidOf t (stays Idle (stateOf t frame answer))
+pub idle-stays : (t : Till) (frame answer : List ℕ) → t .slot ≡ Free → record { till = t; word = Idle } ≡ saidOf t (stays Idle (stateOf t frame answer))
 idle-stays t frame answer e =
-    let same : t .sent ≡ sentOf (pendingOf (t .sent) frame answer) = e ∙ ap (λ z. sentOf (pendingOf z frame answer)) (sym e) in
-    λ i. record { till = record { next = t .next; sent = same i }; word = Idle }
+    let same : t .slot ≡ slotOf (pendingOf (t .slot) frame answer) = e ∙ ap (λ z. slotOf (pendingOf z frame answer)) (sym e) in
+    λ i. record { till = record { next = t .next; slot = same i }; word = Idle }
 
 -- a command that waits is never refused
 pub not-refused : (next seq code : ℕ) (bytes : List ℕ) (tries : ℕ) (m : Meaning) → refused (numberOf (onMeaning next seq code bytes tries m .word)) ≡ false
@@ -108,12 +108,12 @@ said-on t next seq code bytes tries m =
 abbrev bySendable : ℕ → Message → Bool → Turn
 bySendable next m s = cond s (sent next m) (stays NotSent (record { next = next; pending = idle }))
 
-pub said-sent : (t : Till) (code : ℕ) (content : List ℕ) → t .sent ≡ Free → toldOf (sentBy (t .next) code content) ≡ saidOf t (sentBy (t .next) code content)
+pub said-sent : (t : Till) (code : ℕ) (content : List ℕ) → t .slot ≡ Free → toldOf (sentBy (t .next) code content) ≡ saidOf t (sentBy (t .next) code content)
 said-sent t code content e = go (sendable Command (commandOf (t .next) code content))
   where
     go : (s : Bool) → toldOf (bySendable (t .next) (commandOf (t .next) code content) s) ≡ saidOf t (bySendable (t .next) (commandOf (t .next) code content) s)
     go true = refl
-    go false = λ i. record { till = record { next = t .next; sent = sym e i }; word = NotSent }
+    go false = λ i. record { till = record { next = t .next; slot = sym e i }; word = NotSent }
 
 -- what a public function says, from its turn
 module _ (t : Till) (buf buf' : List ℕ) (r : Said) (x y : Turn) (e : x ≡ y) where
@@ -123,8 +123,8 @@ module _ (t : Till) (buf buf' : List ℕ) (r : Said) (x y : Turn) (e : x ≡ y) 
   pub puts : buf' ≡ sets buf 0 (y .puts) → buf' ≡ sets buf 0 (x .puts)
   puts q = q ∙ ap (λ (z : Turn). sets buf 0 (z .puts)) (sym e)
 
-  pub reads-in : (array array' : List ℕ) → array' ≡ readIn array (y .state .pending) → array' ≡ readIn array (x .state .pending)
-  reads-in array array' q = q ∙ ap (λ (z : Turn). readIn array (z .state .pending)) (sym e)
+  pub reads-in : (array array' : List ℕ) → array' ≡ heldIn array (y .state .pending) → array' ≡ heldIn array (x .state .pending)
+  reads-in array array' q = q ∙ ap (λ (z : Turn). heldIn array (z .state .pending)) (sym e)
 
   pub frames-in : (array array' : List ℕ) → array' ≡ framed array (y .state .pending) → array' ≡ framed array (x .state .pending)
   frames-in array array' q = q ∙ ap (λ (z : Turn). framed array (z .state .pending)) (sym e)
@@ -170,7 +170,7 @@ module _ (next code : ℕ) (content array : List ℕ) (size : length array ≡ 2
 
   -- not sent
   pub says-not : sendable Command m ≡ false → (after buf : List ℕ) → after ≡ array
-      → (record { till = record { next = next; sent = Free }; word = NotSent } ≡ toldOf (sentBy next code content))
+      → (record { till = record { next = next; slot = Free }; word = NotSent } ≡ toldOf (sentBy next code content))
       × ((after ≡ framed array (sentBy next code content .state .pending)) × (buf ≡ sets buf 0 (sentBy next code content .puts)))
   says-not e after buf same =
       let turn : sentBy next code content ≡ stays NotSent (record { next = next; pending = idle }) = ap (bySendable next m) e in
@@ -179,7 +179,7 @@ module _ (next code : ℕ) (content array : List ℕ) (size : length array ≡ 2
   -- sent: the frame that is handed out is the one that is held
   pub says-sent : sendable Command m ≡ true → (n : ℕ) → n ≡ length (frame Command m) → (after buf buf' : List ℕ) → after ≡ sets array 0 (frame Command m)
       → buf' ≡ sets buf 0 (take n after) → (up : ℕ) → up ≡ seqAfter next → (start : Reader) → start ≡ readerOf outside
-      → (record { till = record { next = up; sent = Held (record { seq = next; code = code; tries = 1; count = n; reader = start }) }; word = Waiting n } ≡ toldOf (sentBy next code content))
+      → (record { till = record { next = up; slot = Held (record { seq = next; code = code; tries = 1; count = n; reader = start }) }; word = Waiting n } ≡ toldOf (sentBy next code content))
       × ((after ≡ framed array (sentBy next code content .state .pending)) × (buf' ≡ sets buf 0 (sentBy next code content .puts)))
   says-sent e n count after buf buf' ea eb up eu start es =
       let turn : sentBy next code content ≡ sent next m = ap (bySendable next m) e in
@@ -187,7 +187,7 @@ module _ (next code : ℕ) (content array : List ℕ) (size : length array ≡ 2
       let held : take n after ≡ frame Command m =
       ap (take n) (ea ∙ sets-eq (frame Command m) array 0 (omega arith)) ∙ take-at (frame Command m) _ n (sym count) in (
         (λ i. record {
-          till = record { next = eu i; sent = Held (record { seq = next; code = code; tries = 1; count = count i; reader = es i }) };
+          till = record { next = eu i; slot = Held (record { seq = next; code = code; tries = 1; count = count i; reader = es i }) };
           word = Waiting (count i);
         }) ∙ ap toldOf (sym turn),
         (ea ∙ ap (λ (z : Turn). framed array (z .state .pending)) (sym turn), eb ∙ ap (sets buf 0) held ∙ ap (λ (z : Turn). sets buf 0 (z .puts)) (sym turn)),

@@ -139,7 +139,7 @@ takes-good seen h sound = go (seen .commands) (seen .last) sound h
     go k (one m frames bytes) s (byte b) = byte-good k m frames bytes s b
     go k (one m frames bytes) s timeout = fails-good k m frames bytes s timeout
 
-turn-good : (seen : Seen) (l : Lent) → Sound (seen .last) → Good seen (l .happens) (says (stateSeen seen) l)
+pub turn-good : (seen : Seen) (l : Lent) → Sound (seen .last) → Good seen (l .happens) (says (stateSeen seen) l)
 turn-good seen l sound = go (ltb (l .size) (room Command))
   where
     go : (s : Bool) → Good seen (l .happens) (cond s (stays TooShort (stateSeen seen)) (takes (stateSeen seen) (l .happens)))

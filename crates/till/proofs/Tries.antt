@@ -16,7 +16,7 @@ use Rattle.wire.specs.declared.Kind.the-variants.{Command, Answer}
 use Rattle.wire.specs.declared.Sort.the-variants.{Mark as SeqOrCmd, Data}
 use Rattle.wire.proofs.Building.{sendable-command}
 use Rattle.reader.specs.Reading.{Place, outside, run}
-use Rattle.till.specs.Turns.{Pending, idle, waits, State, freshState, Happening, command, byte, timeout, Turn, stays, gives, sent, Meaning, failed, goesOn, answers, byteMeans, failsTry, onMeaning, onCommand, takes, hears}
+use Rattle.till.specs.Turns.{Pending, idle, waits, State, freshState, Happening, command, byte, timeout, Turn, stays, sent, Meaning, failed, goesOn, answers, byteMeans, failsTry, onMeaning, onCommand, takes, hears}
 use Rattle.till.specs.History.{Lent, says, behind, seqOf, Open, none, one, Seen, nothingSeen, onWord, noted, watch, watched, Mark, ended, marksOf, marks, alternate, ends, failure, failureOf, failures}
 use Rattle.till.specs.Promises.{Tried, GivenUp}
 use Rattle.till.specs.declared.Word.the-variants.{Idle, Answered, Unfinished, TooShort, NotSent}
@@ -182,20 +182,32 @@ module _ (next seq code : ℕ) (bytes : List ℕ) (tries : ℕ) (few : tries ≤
       go true = inr (record { place = place; state = none-failed place; few = omega arith; quiet = refl })
       go false = ends-takes place (l .happens)
 
-failures-few : (ls : List Lent) (next seq code : ℕ) (bytes : List ℕ) (tries : ℕ) (place : Place) → tries ≤ 5
+-- and any list of events: it ends, or it waits on
+pub record Waits-through (s : State) (ls : List Lent) (next seq code : ℕ) (bytes : List ℕ) (tries : ℕ) : Type 0 where
+  pub place : Place
+  pub state : behind s ls ≡ record { next = next; pending = waits seq code bytes (tries + failures s ls) place }
+  pub few : tries + failures s ls ≤ 5
+
+pub waits-through : (ls : List Lent) (next seq code : ℕ) (bytes : List ℕ) (tries : ℕ) (place : Place) → tries ≤ 5
     → ends (marks (record { next = next; pending = waits seq code bytes tries place }) ls) ≡ false
-    → failures (record { next = next; pending = waits seq code bytes tries place }) ls + tries ≤ 5
-failures-few [] next seq code bytes tries place few e = omega arith
-failures-few (l ∷ ls) next seq code bytes tries place few e =
+    → Waits-through (record { next = next; pending = waits seq code bytes tries place }) ls next seq code bytes tries
+waits-through [] next seq code bytes tries place few e =
+    record { place = place; state = none-failed next seq code bytes tries few place; few = omega arith }
+waits-through (l ∷ ls) next seq code bytes tries place few e =
     ⊎-elim
     (λ over. absurd (false≢true (sym e ∙ ap (λ z. ends (z ++ marks (says s l .state) ls)) over)))
     (λ on.
     let f : ℕ = cond (ltb (l .size) (room Command)) 0 (failureOf (waits seq code bytes tries place) (l .happens)) in
-    let rest : failures (says s l .state) ls + (tries + f) ≤ 5 =
-    subst (λ (z : State). ends (marks z ls) ≡ false → failures z ls + (tries + f) ≤ 5) (sym (on .state))
-    (failures-few ls next seq code bytes (tries + f) (on .place) (on .few))
+    let rest : Waits-through (says s l .state) ls next seq code bytes (tries + f) =
+    subst (λ (z : State). ends (marks z ls) ≡ false → Waits-through z ls next seq code bytes (tries + f)) (sym (on .state))
+    (waits-through ls next seq code bytes (tries + f) (on .place) (on .few))
     (sym (ap (λ z. ends (z ++ marks (says s l .state) ls)) (on .quiet)) ∙ e) in
-    omega arith)
+    let sum : tries + f + failures (says s l .state) ls ≡ tries + (f + failures (says s l .state) ls) = omega arith in
+    record {
+      place = rest .place;
+      state = rest .state ∙ ap (λ j. record { next = next; pending = waits seq code bytes j (rest .place) }) sum;
+      few = omega (arith, rest .few);
+    })
     (ends-turn next seq code bytes tries few place l)
   where
     s : State
@@ -211,7 +223,7 @@ five-failed-tries-end ls s seq code bytes place e =
     go : (over : Bool) → ends (marks (record { next = s .next; pending = waits seq code bytes 1 place }) ls) ≡ over
         → 5 ≤ failures (record { next = s .next; pending = waits seq code bytes 1 place }) ls → over ≡ true
     go true h five = refl
-    go false h five = absurd (omega (arith, failures-few ls (s .next) seq code bytes 1 place (omega arith) h))
+    go false h five = absurd (omega (arith, waits-through ls (s .next) seq code bytes 1 place (omega arith) h .few))
 
 -- where none waits, a command is taken exactly when its CMD and data may be sent: the SEQ always may
 seq-may : (k : ℕ) → mayStand SeqOrCmd (seqOf k) ≡ true

@@ -8,35 +8,35 @@ use lib.Seq.{sets}
 use Rattle.reader.specs.Fields.{placeOf, readerOf, keptIn}
 use Rattle.till.specs.Words.{numberOf}
 use Rattle.till.specs.Turns.{Pending, idle, waits, State, Happening, Turn, hears}
-use Rattle.till.specs.declared.Sent.{Sent}
-use Rattle.till.specs.declared.Sent.the-variants.{Free, Held}
+use Rattle.till.specs.declared.Slot.{Slot}
+use Rattle.till.specs.declared.Slot.the-variants.{Free, Held}
 use Rattle.till.specs.declared.Till.{Till}
 use Rattle.till.specs.declared.Said.{Said}
 
 -- the state that the fields say, with the array that holds the frame and the one that holds the answer's bytes since 01h
-abbrev pub pendingOf : Sent → List ℕ → List ℕ → Pending
+abbrev pub pendingOf : Slot → List ℕ → List ℕ → Pending
 pendingOf Free frame answer = idle
 pendingOf (Held a) frame answer = waits (a .seq) (a .code) (take (a .count) frame) (a .tries) (placeOf (a .reader) answer)
 
 abbrev pub stateOf : Till → List ℕ → List ℕ → State
-stateOf t frame answer = record { next = t .next; pending = pendingOf (t .sent) frame answer }
+stateOf t frame answer = record { next = t .next; pending = pendingOf (t .slot) frame answer }
 
 -- and the fields that say a state
-abbrev pub sentOf : Pending → Sent
-sentOf idle = Free
-sentOf (waits seq code bytes tries place) = Held (record { seq = seq; code = code; tries = tries; count = length bytes; reader = readerOf place })
+abbrev pub slotOf : Pending → Slot
+slotOf idle = Free
+slotOf (waits seq code bytes tries place) = Held (record { seq = seq; code = code; tries = tries; count = length bytes; reader = readerOf place })
 
 abbrev pub tillOf : State → Till
-tillOf s = record { next = s .next; sent = sentOf (s .pending) }
+tillOf s = record { next = s .next; slot = slotOf (s .pending) }
 
 -- the lent arrays with the frame, and with the answer's bytes, at their front; all their other bytes stay
 abbrev pub framed : List ℕ → Pending → List ℕ
 framed array idle = array
 framed array (waits seq code bytes tries place) = sets array 0 bytes
 
-abbrev pub readIn : List ℕ → Pending → List ℕ
-readIn array idle = array
-readIn array (waits seq code bytes tries place) = keptIn array place
+abbrev pub heldIn : List ℕ → Pending → List ℕ
+heldIn array idle = array
+heldIn array (waits seq code bytes tries place) = keptIn array place
 
 -- 7 and 8: "everything" stays
 abbrev pub refused : ℕ → Bool

@@ -134,14 +134,14 @@ failures s [] = 0
 failures s (l ∷ ls) = cond (ltb (l .size) (room Command)) 0 (failureOf (s .pending) (l .happens)) + failures (says s l .state) ls
 
 -- the bytes of the line, each with 210 bytes lent
-abbrev pub line : List ℕ → List Lent
-line [] = []
-line (b ∷ bs) = record { size = 210; happens = byte b } ∷ line bs
+abbrev pub heardBytes : List ℕ → List Lent
+heardBytes [] = []
+heardBytes (b ∷ bs) = record { size = 210; happens = byte b } ∷ heardBytes bs
 
 abbrev pub words : List Turn → List Word
 words [] = []
 words (t ∷ ts) = t .word ∷ words ts
 
-abbrev pub given : List Turn → List (List ℕ)
-given [] = []
-given (t ∷ ts) = t .puts ∷ given ts
+abbrev pub putsOf : List Turn → List (List ℕ)
+putsOf [] = []
+putsOf (t ∷ ts) = t .puts ∷ putsOf ts

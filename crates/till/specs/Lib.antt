@@ -4,3 +4,5 @@ pub mod Fields
 pub mod History
 pub mod Promises
 pub mod Private
+pub mod Handed
+pub mod Fifth

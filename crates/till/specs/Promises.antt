@@ -8,8 +8,8 @@ use Rattle.wire.specs.Frame.{Message, frame, sendable}
 use Rattle.wire.specs.declared.Kind.the-variants.{Command, Answer}
 use Rattle.till.specs.Turns.{byte}
 use Rattle.till.specs.History.{Lent, one, Seen}
-use Rattle.till.specs.declared.Sent.{Sent}
-use Rattle.till.specs.declared.Sent.the-variants.{Free, Held}
+use Rattle.till.specs.declared.Slot.{Slot}
+use Rattle.till.specs.declared.Slot.the-variants.{Free, Held}
 
 -- the frames handed out for a command: one to five, and all of them its own frame
 pub record Tried (m : Message) (frames : List (List ℕ)) : Type 0 where
@@ -46,6 +46,6 @@ pub record Came (seen : Seen) (l : Lent) : Type 0 where
   pub whole : since ++ last ∷ [] ≡ before ++ frame Answer answer
 
 -- a command's fields are bytes: their types say so
-abbrev pub Bytes : Sent → Type 0
+abbrev pub Bytes : Slot → Type 0
 Bytes Free = Unit {0}
 Bytes (Held a) = (a .count < 256) × (a .reader .count < 256)

@@ -12,9 +12,9 @@ ghost use lib.ListN.{length, take, drop};
 ghost use lib.Seq.{sets};
 ghost use Rattle.till.specs.Words.{numberOf, countOf};
 ghost use Rattle.till.specs.Turns.{command, byte, timeout, freshState, seqAfter};
-ghost use Rattle.till.specs.Fields.{tillOf, framed, readIn, saidOf, turnOf};
+ghost use Rattle.till.specs.Fields.{tillOf, framed, heldIn, saidOf, turnOf};
 ghost use Rattle.till.specs.Private.{toldOf, failedBy, heardBy, sentBy};
-ghost use Rattle.till.specs.declared.Sent.the-variants.{Free, Held};
+ghost use Rattle.till.specs.declared.Slot.the-variants.{Free, Held};
 ghost use Rattle.till.specs.declared.Word.the-variants.{Waiting, Answered, NotSent};
 
 // A command that waits. Its frame is the first `count` bytes of a lent array.
@@ -26,7 +26,8 @@ pub struct Attempt {
     pub reader: Reader,
 }
 
-pub enum Sent {
+// No command waits, or one does.
+pub enum Slot {
     Free,
     Held(Attempt),
 }
@@ -34,7 +35,7 @@ pub enum Sent {
 // `next` is the SEQ of the next command.
 pub struct Till {
     pub next: u8,
-    pub sent: Sent,
+    pub slot: Slot,
 }
 
 // What the till end says, with how many bytes it put in the lent buffer, or the number of tries.
@@ -58,7 +59,7 @@ pub fn fresh() -> Till
 {
     Till {
         next: 0x20,
-        sent: Sent::Free,
+        slot: Slot::Free,
     }
 }
 
@@ -104,8 +105,8 @@ pub fn command(till: Till, frame: &mut [u8; 256], code: u8, content: &[u8], buf:
             word: Word::TooShort,
         };
     }
-    let sent = till.sent;
-    let Sent::Free = sent else {
+    let slot = till.slot;
+    let Slot::Free = slot else {
         return Said {
             till,
             word: Word::NotSent,
@@ -141,24 +142,24 @@ fn send(next: u8, frame: &mut [u8; 256], code: u8, content: &[u8], buf: &mut [u8
 
 // What is said where a command waits, and where none does.
 fn held(next: u8, a: Attempt, word: Word) -> Said
-    ensures { λ r. ⌜ r ≡ record { till = record { next = next; sent = Held a }; word = word } ⌝ }
+    ensures { λ r. ⌜ r ≡ record { till = record { next = next; slot = Held a }; word = word } ⌝ }
 {
     Said {
         till: Till {
             next,
-            sent: Sent::Held(a),
+            slot: Slot::Held(a),
         },
         word,
     }
 }
 
 fn free(next: u8, word: Word) -> Said
-    ensures { λ r. ⌜ r ≡ record { till = record { next = next; sent = Free }; word = word } ⌝ }
+    ensures { λ r. ⌜ r ≡ record { till = record { next = next; slot = Free }; word = word } ⌝ }
 {
     Said {
         till: Till {
             next,
-            sent: Sent::Free,
+            slot: Slot::Free,
         },
         word,
     }
@@ -185,7 +186,7 @@ fn hand_out(frame: &[u8], count: u8, buf: &mut [u8])
 // A byte from the line.
 pub fn byte(till: Till, frame: &[u8; 256], answer: &mut [u8; 256], b: u8, buf: &mut [u8]) -> Said
     ensures { λ r. ⌜ r ≡ saidOf till (turnOf till (now (frame .entry)) (now (answer .entry)) (now (buf .entry)) (byte b)) ⌝ }
-    ensures { λ r. ⌜ now (answer .exit) ≡ readIn (now (answer .entry)) (turnOf till (now (frame .entry)) (now (answer .entry)) (now (buf .entry)) (byte b) .state .pending) ⌝ }
+    ensures { λ r. ⌜ now (answer .exit) ≡ heldIn (now (answer .entry)) (turnOf till (now (frame .entry)) (now (answer .entry)) (now (buf .entry)) (byte b) .state .pending) ⌝ }
     ensures { λ r. ⌜ now (buf .exit) ≡ sets (now (buf .entry)) 0 (turnOf till (now (frame .entry)) (now (answer .entry)) (now (buf .entry)) (byte b) .puts) ⌝ }
 {
     if buf.len() < 210 {
@@ -194,8 +195,8 @@ pub fn byte(till: Till, frame: &[u8; 256], answer: &mut [u8; 256], b: u8, buf: &
             word: Word::TooShort,
         };
     }
-    let sent = till.sent;
-    let Sent::Held(a) = sent else {
+    let slot = till.slot;
+    let Slot::Held(a) = slot else {
         return Said {
             till,
             word: Word::Idle,
@@ -208,7 +209,7 @@ pub fn byte(till: Till, frame: &[u8; 256], answer: &mut [u8; 256], b: u8, buf: &
 fn hear(next: u8, a: Attempt, frame: &[u8], answer: &mut [u8; 256], b: u8, buf: &mut [u8]) -> Said
     requires { ⌜ length (now frame) ≡ 256 ⌝ }
     ensures { λ r. ⌜ r ≡ toldOf (heardBy next a (now (frame .entry)) (now (answer .entry)) b) ⌝ }
-    ensures { λ r. ⌜ now (answer .exit) ≡ readIn (now (answer .entry)) (heardBy next a (now (frame .entry)) (now (answer .entry)) b .state .pending) ⌝ }
+    ensures { λ r. ⌜ now (answer .exit) ≡ heldIn (now (answer .entry)) (heardBy next a (now (frame .entry)) (now (answer .entry)) b .state .pending) ⌝ }
     ensures { λ r. ⌜ now (buf .exit) ≡ sets (now (buf .entry)) 0 (heardBy next a (now (frame .entry)) (now (answer .entry)) b .puts) ⌝ }
 {
     let reader = a.reader;
@@ -250,7 +251,7 @@ fn nak_outside(within: bool, b: u8) -> bool
 // One byte more, of an answer or beside one. That the count is a byte is for its caller.
 fn goes_on(next: u8, a: Attempt, reader: Reader) -> Said
     ensures { λ r. ⌜ a .count < 256 ⌝ }
-    ensures { λ r. ⌜ r ≡ record { till = record { next = next; sent = Held (record { seq = a .seq; code = a .code; tries = a .tries; count = a .count; reader = reader }) }; word = Waiting 0 } ⌝ }
+    ensures { λ r. ⌜ r ≡ record { till = record { next = next; slot = Held (record { seq = a .seq; code = a .code; tries = a .tries; count = a .count; reader = reader }) }; word = Waiting 0 } ⌝ }
 {
     let more = Attempt {
         seq: a.seq,
@@ -265,7 +266,7 @@ fn goes_on(next: u8, a: Attempt, reader: Reader) -> Said
 // The answer's n data bytes, and behind them its six status bytes.
 fn answered(next: u8, answer: &[u8], n: usize, buf: &mut [u8]) -> Said
     requires { ⌜ n + 10 ≤ length (now answer) ⌝ }
-    ensures { λ r. ⌜ r ≡ record { till = record { next = next; sent = Free }; word = Answered (n + 6) } ⌝ }
+    ensures { λ r. ⌜ r ≡ record { till = record { next = next; slot = Free }; word = Answered (n + 6) } ⌝ }
     ensures { λ r. ⌜ now (buf .exit) ≡ sets (now (buf .entry)) 0 (take n (drop 3 (now (answer .entry))) ++ take 6 (drop (4 + n) (now (answer .entry)))) ⌝ }
 {
     let end = n + 3;
@@ -309,8 +310,8 @@ pub fn timeout(till: Till, frame: &[u8; 256], buf: &mut [u8]) -> Said
             word: Word::TooShort,
         };
     }
-    let sent = till.sent;
-    let Sent::Held(a) = sent else {
+    let slot = till.slot;
+    let Slot::Held(a) = slot else {
         return Said {
             till,
             word: Word::Idle,

@@ -1,8 +1,5 @@
-use Rattle.wire.specs.declared.Kind.the-variants.{Command}
-use Rattle.reader.specs.Reading.{read}
-use Rattle.reader.specs.Fields.{placeOf}
-use lib.ListN.{getD, length}
-use Rattle.device.proofs.Listening.{still-256, Head, head-start, head-quiet, head-given, head-done, quiet-is}
+use lib.ListN.{length}
+use Rattle.device.proofs.Listening.{Head, head-start, part-here, heard-within, some-left, head-heard, head-done}
 use mathlib.Core.Path.{sym, _∙_}
 use Prim.Native.Nat.{_-_}
 use native.Mathlib.Omega.{arith}
@@ -10,102 +7,131 @@ use borrow.Author.Needs.{needs}
 use denote.Ref.{now}
 use Rattle.device.proofs.hear_all.Statement.{statement}
 use Rattle.device.proofs.hear_all.Tie as tie
+use Rattle.device.proofs.hear_all.Reads as reads
+use Rattle.device.proofs.hear_all.Lts as lts
+use Rattle.books.proofs.fresh.Reads as fresh-reads
+use Rattle.device.proofs.append.Reads as append-reads
+use Rattle.device.proofs.hear.Reads as hear-reads
+use Rattle.device.proofs.list_call.Reads as list-call-reads
 use Rattle.line.proofs.fresh.Reads as fresh-reads′
 
 abbrev Inv-loop : tie.InvT-loop
-Inv-loop bytes out₀ orders₀ frame₀ last₀ buf₀ line₀ books₀ given₀ listed₀ i₀ out orders frame last buf line books given listed i = Head bytes out₀ orders₀ out orders frame last buf line books given listed i
+Inv-loop bytes out₀ orders₀ frame₀ last₀ buf₀ line₀ books₀ written₀ listed₀ i₀ out orders frame last buf line books written listed i =
+    Head bytes out₀ orders₀ out orders frame last buf line books written listed i
 
 abbrev μ-loop : tie.MeasureT-loop
-μ-loop bytes out₀ orders₀ frame₀ last₀ buf₀ line₀ books₀ given₀ listed₀ i₀ out orders frame last buf line books given listed i = length bytes - i
+μ-loop bytes out₀ orders₀ frame₀ last₀ buf₀ line₀ books₀ written₀ listed₀ i₀ out orders frame last buf line books written listed i = length bytes - i
 
+-- src/lib.rt:236:9
 fresh-requires : tie.Need-fresh-requires Inv-loop μ-loop
 fresh-requires c κs = search needs
 
+-- src/lib.rt:237:9
 fresh-requires-2 : tie.Need-fresh-requires-2 Inv-loop μ-loop
 fresh-requires-2 c κs = search needs
 
+-- src/lib.rt:241:5
 loop-holds : tie.Need-loop-holds Inv-loop μ-loop
-loop-holds c = head-start (now (c .before .before .before .before .before .args .bytes)) (now (c .before .before .before .before .before .args .out)) (now (c .before .before .before .before .before .args .orders)) _ _ (c .before .fresh .ensures) (c .fresh2 .ensures)
+loop-holds c =
+    let a = c .before .before .before .before .before .args in
+    head-start (now (a .bytes)) (now (a .out)) (now (a .orders)) _ _ (c .before .fresh .ensures) (c .fresh2 .ensures)
 
-shared-slice-read-hear : tie.Need-shared-slice-read-hear Inv-loop μ-loop
-shared-slice-read-hear c = omega arith
+-- src/lib.rt:242:20
+sub-part : tie.Need-sub-part Inv-loop μ-loop
+sub-part c = search needs
 
+-- src/lib.rt:242:20
+part-part-start : tie.Need-part-part-start Inv-loop μ-loop
+part-part-start c = search needs
+
+-- src/lib.rt:242:20
+part-part-end : tie.Need-part-part-end Inv-loop μ-loop
+part-part-end c = search needs
+
+-- src/lib.rt:243:62
+slice-aggregate-hear : tie.Need-slice-aggregate-hear Inv-loop μ-loop
+slice-aggregate-hear c = search needs
+
+-- src/lib.rt:243:13
 hear-requires : tie.Need-hear-requires Inv-loop μ-loop
 hear-requires c κs = search needs
 
-add-i : tie.Need-add-i Inv-loop μ-loop
-add-i c = omega arith
-
-is-quiet-requires : tie.Need-is-quiet-requires Inv-loop μ-loop
-is-quiet-requires c κs = search needs
-
-loop-less : tie.Need-loop-less Inv-loop μ-loop
-loop-less c = omega arith
-
-loop-again : tie.Need-loop-again Inv-loop μ-loop
-loop-again c =
-    let at = c .before .before .before .before .before .before .before .loop in
-    head-quiet (now (c .before .before .before .before .before .before .before .before .before .before .before .before .before .args .bytes)) (now (c .before .before .before .before .before .before .before .before .before .before .before .before .before .args .out)) (now (c .before .before .before .before .before .before .before .before .before .before .before .before .before .args .orders)) (at .out) (at .orders) (at .frame) (at .last) (at .buf) (at .line) (at .books) (at .given) (at .listed) (at .i) (at .inv) (c .before .before .before .before .before .before .loop-test .taken)
-    (c .before .before .before .hear .result) _ (c .before .before .before .hear .ensures .0) (c .before .before .before .hear .ensures .1) (omega (arith, c .before .before .before .hear .ok)) (quiet-is (c .before .before .before .hear .result .call) (sym (c .before .is-quiet .ensures) ∙ c .if1 .taken))
-
+-- src/lib.rt:249:34
 slice-aggregate-list-call : tie.Need-slice-aggregate-list-call Inv-loop μ-loop
 slice-aggregate-list-call c =
-    let at = c .before .before .before .before .before .before .before .before .loop in
-    sym (still-256 (at .frame) _ (read Command (placeOf (at .line .reader) (at .frame)) (getD (now (c .before .before .before .before .before .before .before .before .before .before .before .before .before .before .args .bytes)) (at .i) 0) .place) (c .before .before .before .before .hear .ensures .1) (at .inv .frames))
+    let a = c .before .before .before .before .before .before .before .before .before .before .before .before .before .before .before .before .before .args in
+    let at = c .before .before .before .before .before .before .before .before .before .before .before .loop in
+    let heard = c .before .before .before .before .before .hear in
+    sym (part-here (now (a .bytes)) (now (a .out)) (now (a .orders)) (at .out) (at .orders) (at .frame) (at .last) (at .buf) (at .line) (at .books) (at .written) (at .listed) (at .i) (at .inv) (c .before .before .before .before .before .before .before .before .before .before .loop-test .taken) _ (heard .ensures .0) (heard .ensures .1 .0) .frames)
 
+-- src/lib.rt:249:9
 list-call-requires : tie.Need-list-call-requires Inv-loop μ-loop
 list-call-requires c κs =
-    let at = c .before .before .before .before .before .before .before .before .before .loop in
-    (still-256 (at .frame) _ (read Command (placeOf (at .line .reader) (at .frame)) (getD (now (c .before .before .before .before .before .before .before .before .before .before .before .before .before .before .before .args .bytes)) (at .i) 0) .place) (c .before .before .before .before .before .hear .ensures .1) (at .inv .frames), at .inv .listed-in)
+    let a = c .before .before .before .before .before .before .before .before .before .before .before .before .before .before .before .before .before .before .args in
+    let at = c .before .before .before .before .before .before .before .before .before .before .before .before .loop in
+    let heard = c .before .before .before .before .before .before .hear in
+    (part-here (now (a .bytes)) (now (a .out)) (now (a .orders)) (at .out) (at .orders) (at .frame) (at .last) (at .buf) (at .line) (at .books) (at .written) (at .listed) (at .i) (at .inv) (c .before .before .before .before .before .before .before .before .before .before .before .loop-test .taken) _ (heard .ensures .0) (heard .ensures .1 .0) .frames, at .inv .listed-in)
 
-slice-aggregate-answer-call : tie.Need-slice-aggregate-answer-call Inv-loop μ-loop
-slice-aggregate-answer-call c =
-    let at = c .before .before .before .before .before .before .before .before .before .before .before .before .before .loop in
-    sym (still-256 (at .frame) _ (read Command (placeOf (at .line .reader) (at .frame)) (getD (now (c .before .before .before .before .before .before .before .before .before .before .before .before .before .before .before .before .before .before .before .args .bytes)) (at .i) 0) .place) (c .before .before .before .before .before .before .before .before .before .hear .ensures .1) (at .inv .frames))
-
-slice-aggregate-answer-call-2 : tie.Need-slice-aggregate-answer-call-2 Inv-loop μ-loop
-slice-aggregate-answer-call-2 c = search needs
-
-slice-aggregate-answer-call-3 : tie.Need-slice-aggregate-answer-call-3 Inv-loop μ-loop
-slice-aggregate-answer-call-3 c = search needs
-
-answer-call-requires : tie.Need-answer-call-requires Inv-loop μ-loop
-answer-call-requires c κs =
-    let at = c .before .before .before .before .before .before .before .before .before .before .before .before .before .before .before .loop in
-    record { frames = still-256 (at .frame) _ (read Command (placeOf (at .line .reader) (at .frame)) (getD (now (c .before .before .before .before .before .before .before .before .before .before .before .before .before .before .before .before .before .before .before .before .before .args .bytes)) (at .i) 0) .place) (c .before .before .before .before .before .before .before .before .before .before .before .hear .ensures .1) (at .inv .frames); lasts = at .inv .lasts; room = omega (arith, at .inv .room) }
-
+-- src/lib.rt:250:40
 sub-append : tie.Need-sub-append Inv-loop μ-loop
 sub-append c = search needs
 
+-- src/lib.rt:250:40
 part-append-start : tie.Need-part-append-start Inv-loop μ-loop
 part-append-start c = search needs
 
+-- src/lib.rt:250:40
 part-append-end : tie.Need-part-append-end Inv-loop μ-loop
-part-append-end c = omega (arith, c .before .before .before .before .before .before .answer-call .ensures .1, c .before .before .before .before .before .before .before .before .before .before .before .before .before .before .before .before .before .before .before .before .before .before .loop .inv .room)
+part-append-end c =
+    let a = c .before .before .before .before .before .before .before .before .before .before .before .before .before .before .before .before .before .before .before .before .before .before .before .args in
+    let at = c .before .before .before .before .before .before .before .before .before .before .before .before .before .before .before .before .before .loop in
+    let heard = c .before .before .before .before .before .before .before .before .before .before .before .hear in
+    omega (arith, part-here (now (a .bytes)) (now (a .out)) (now (a .orders)) (at .out) (at .orders) (at .frame) (at .last) (at .buf) (at .line) (at .books) (at .written) (at .listed) (at .i) (at .inv) (c .before .before .before .before .before .before .before .before .before .before .before .before .before .before .before .before .loop-test .taken) _ (heard .ensures .0) (heard .ensures .1 .0) .room, at .inv .room, heard .ensures .1 .0)
 
+-- src/lib.rt:250:9
 append-requires : tie.Need-append-requires Inv-loop μ-loop
 append-requires c κs = search needs
 
-loop-less-2 : tie.Need-loop-less-2 Inv-loop μ-loop
-loop-less-2 c = omega (arith, c .before .before .before .before .before .before .before .before .before .before .before .before .before .before .before .before .before .before .before .before .before .before .before .before .before .loop-test .taken)
+-- src/lib.rt:253:9
+add-i : tie.Need-add-i Inv-loop μ-loop
+add-i c =
+    let a = c .before .before .before .before .before .before .before .before .before .before .before .before .before .before .before .before .before .before .before .before .before .before .before .before .before .before .before .before .args in
+    let at = c .before .before .before .before .before .before .before .before .before .before .before .before .before .before .before .before .before .before .before .before .before .before .loop in
+    let heard = c .before .before .before .before .before .before .before .before .before .before .before .before .before .before .before .before .hear in
+    let within = heard-within (now (a .bytes)) (now (a .out)) (now (a .orders)) (at .out) (at .orders) (at .frame) (at .last) (at .buf) (at .line) (at .books) (at .written) (at .listed) (at .i) (at .inv) (c .before .before .before .before .before .before .before .before .before .before .before .before .before .before .before .before .before .before .before .before .before .loop-test .taken) _ (heard .ensures .0) (heard .ensures .1 .1 .0) in
+    omega (arith, within, c .before .before .before .before .before .before .before .before .before .before .before .before .before .before .before .before .before .before .before .before .before .before .before .before .before .before .before .before .good .0 .0)
 
-loop-again-2 : tie.Need-loop-again-2 Inv-loop μ-loop
-loop-again-2 c =
-    let at = c .before .before .before .before .before .before .before .before .before .before .before .before .before .before .before .before .before .before .before .before .before .before .before .before .before .before .loop in
-    head-given (now (c .before .before .before .before .before .before .before .before .before .before .before .before .before .before .before .before .before .before .before .before .before .before .before .before .before .before .before .before .before .before .before .before .args .bytes)) (now (c .before .before .before .before .before .before .before .before .before .before .before .before .before .before .before .before .before .before .before .before .before .before .before .before .before .before .before .before .before .before .before .before .args .out)) (now (c .before .before .before .before .before .before .before .before .before .before .before .before .before .before .before .before .before .before .before .before .before .before .before .before .before .before .before .before .before .before .before .before .args .orders)) (at .out) (at .orders) (at .frame) (at .last) (at .buf) (at .line) (at .books) (at .given) (at .listed) (at .i) (at .inv) (c .before .before .before .before .before .before .before .before .before .before .before .before .before .before .before .before .before .before .before .before .before .before .before .before .before .loop-test .taken)
-    (c .before .before .before .before .before .before .before .before .before .before .before .before .before .before .before .before .before .before .before .before .before .before .hear .result) _ (c .before .before .before .before .before .before .before .before .before .before .before .before .before .before .before .before .before .before .before .before .before .before .hear .ensures .0) (c .before .before .before .before .before .before .before .before .before .before .before .before .before .before .before .before .before .before .before .before .before .before .hear .ensures .1) (omega (arith, c .before .before .before .before .before .before .before .before .before .before .before .before .before .before .before .before .before .before .before .before .before .before .hear .ok))
-    (c .before .before .before .before .before .before .before .before .before .before .answer-call .result) _ _ (c .before .before .before .before .before .before .before .before .before .before .answer-call .ensures .0) (c .before .before .before .before .before .before .before .before .before .before .answer-call .ensures .1) _ _ _ _ (c .before .before .append .ensures .1) (c .before .before .append .ensures .0) (c .before .before .before .before .before .before .before .before .before .before .before .before .before .before .before .before .list-call .ensures .1) (c .before .before .before .before .before .before .before .before .before .before .before .before .before .before .before .before .list-call .ensures .0)
+-- src/lib.rt:241:5
+loop-less : tie.Need-loop-less Inv-loop μ-loop
+loop-less c =
+    let a = c .before .before .before .before .before .before .before .before .before .before .before .before .before .before .before .before .before .before .before .before .before .before .before .before .before .before .before .before .args in
+    let at = c .before .before .before .before .before .before .before .before .before .before .before .before .before .before .before .before .before .before .before .before .before .before .loop in
+    let heard = c .before .before .before .before .before .before .before .before .before .before .before .before .before .before .before .before .hear in
+    let some = heard .ensures .1 .1 .1 (omega (arith, at .inv .room)) (some-left (now (a .bytes)) (now (a .out)) (now (a .orders)) (at .out) (at .orders) (at .frame) (at .last) (at .buf) (at .line) (at .books) (at .written) (at .listed) (at .i) (at .inv) (c .before .before .before .before .before .before .before .before .before .before .before .before .before .before .before .before .before .before .before .before .before .loop-test .taken) _ (heard .ensures .0)) in
+    omega (arith, some, c .before .before .before .before .before .before .before .before .before .before .before .before .before .before .before .before .before .before .before .before .before .loop-test .taken)
 
+-- src/lib.rt:241:5
+loop-again : tie.Need-loop-again Inv-loop μ-loop
+loop-again c =
+    let a = c .before .before .before .before .before .before .before .before .before .before .before .before .before .before .before .before .before .before .before .before .before .before .before .before .before .before .before .before .args in
+    let at = c .before .before .before .before .before .before .before .before .before .before .before .before .before .before .before .before .before .before .before .before .before .before .loop in
+    let heard = c .before .before .before .before .before .before .before .before .before .before .before .before .before .before .before .before .hear in
+    head-heard (now (a .bytes)) (now (a .out)) (now (a .orders)) (at .out) (at .orders) (at .frame) (at .last) (at .buf) (at .line) (at .books) (at .written) (at .listed) (at .i) (at .inv) (c .before .before .before .before .before .before .before .before .before .before .before .before .before .before .before .before .before .before .before .before .before .loop-test .taken) _ (heard .ensures .0) (heard .ensures .1 .0) (heard .ensures .1 .1 .0) _ _ _ _ (c .before .before .before .append .ensures .1) (c .before .before .before .append .ensures .0) (c .before .before .before .before .before .before .before .before .before .list-call .ensures .1) (c .before .before .before .before .before .before .before .before .before .list-call .ensures .0)
+
+-- src/lib.rt:230:1
 same-length : tie.Need-same-length Inv-loop μ-loop
 same-length c = c .before .loop .inv .outs
 
+-- src/lib.rt:230:1
 same-length-2 : tie.Need-same-length-2 Inv-loop μ-loop
 same-length-2 c = c .before .loop .inv .orderss
 
+-- src/lib.rt:230:1
 returns : tie.Need-returns Inv-loop μ-loop
 returns c =
     let at = c .before .loop in
-    head-done (now (c .before .before .before .before .before .before .before .args .bytes)) (now (c .before .before .before .before .before .before .before .args .out)) (now (c .before .before .before .before .before .before .before .args .orders)) (at .out) (at .orders) (at .frame) (at .last) (at .buf) (at .line) (at .books) (at .given) (at .listed) (at .i) (at .inv) (c .loop-test .left)
+    let a = c .before .before .before .before .before .before .before .args in
+    head-done (now (a .bytes)) (now (a .out)) (now (a .orders)) (at .out) (at .orders) (at .frame) (at .last) (at .buf) (at .line) (at .books) (at .written) (at .listed) (at .i) (at .inv) (c .loop-test .left)
 
 pub hear-all-spec : {M : Type 1} → statement M
 hear-all-spec =
@@ -116,24 +142,20 @@ hear-all-spec =
     fresh-requires
     fresh-requires-2
     loop-holds
-    shared-slice-read-hear
+    sub-part
+    part-part-start
+    part-part-end
+    slice-aggregate-hear
     hear-requires
-    add-i
-    is-quiet-requires
-    loop-less
-    loop-again
     slice-aggregate-list-call
     list-call-requires
-    slice-aggregate-answer-call
-    slice-aggregate-answer-call-2
-    slice-aggregate-answer-call-3
-    answer-call-requires
     sub-append
     part-append-start
     part-append-end
     append-requires
-    loop-less-2
-    loop-again-2
+    add-i
+    loop-less
+    loop-again
     same-length
     same-length-2
     returns)

@@ -6,7 +6,7 @@ use Rattle.printer.proofs.main.Reads as reads
 use Rattle.printer.proofs.main.Lts as lts
 use Rattle.books.proofs.fresh.Reads as fresh-reads
 use Rattle.line.proofs.fresh.Reads as fresh-reads′
-use Rattle.printer.proofs.hear.Reads as hear-reads
+use Rattle.printer.proofs.answer.Reads as answer-reads
 use Rattle.printer.proofs.some.Reads as some-reads
 
 abbrev Inv-loop : tie.InvT-loop
@@ -40,12 +40,12 @@ returns : tie.Need-returns Inv-loop μ-loop
 returns c = tt
 
 -- src/main.rt:22:62
-slice-aggregate-hear : tie.Need-slice-aggregate-hear Inv-loop μ-loop
-slice-aggregate-hear c = search needs
+slice-aggregate-answer : tie.Need-slice-aggregate-answer Inv-loop μ-loop
+slice-aggregate-answer c = search needs
 
 -- src/main.rt:22:13
-hear-requires : tie.Need-hear-requires Inv-loop μ-loop
-hear-requires c κs = search needs
+answer-requires : tie.Need-answer-requires Inv-loop μ-loop
+answer-requires c κs = search needs
 
 -- src/main.rt:27:9
 sub-turns : tie.Need-sub-turns Inv-loop μ-loop
@@ -75,8 +75,8 @@ main-spec =
     slice-aggregate-some
     some-requires
     returns
-    slice-aggregate-hear
-    hear-requires
+    slice-aggregate-answer
+    answer-requires
     sub-turns
     loop-less
     loop-again

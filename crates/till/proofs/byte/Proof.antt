@@ -15,13 +15,13 @@ returns c =
     let e = too-short (a .till) (now (a .frame)) (now (a .answer)) (now (a .buf)) (byte (a .b)) (c .if1 .taken) in (
       says (a .till) (now (a .buf)) (now (a .buf)) _ _ _ e (all-stays (a .till) (now (a .frame)) (now (a .answer)) TooShort refl),
       (
-        reads-in (a .till) (now (a .buf)) (now (a .buf)) (record { till = a .till; word = TooShort }) _ _ e (now (a .answer)) _ (read-same (a .till .sent) (now (a .frame)) (now (a .answer))),
+        reads-in (a .till) (now (a .buf)) (now (a .buf)) (record { till = a .till; word = TooShort }) _ _ e (now (a .answer)) _ (read-same (a .till .slot) (now (a .frame)) (now (a .answer))),
         puts (a .till) (now (a .buf)) _ (record { till = a .till; word = TooShort }) _ _ e refl,
       ),
     )
 
-enum-known-sent : tie.Need-enum-known-sent
-enum-known-sent c = search needs
+enum-known-slot : tie.Need-enum-known-slot
+enum-known-slot c = search needs
 
 enum-told : tie.Need-enum-told
 enum-told c = search needs
@@ -33,7 +33,7 @@ returns-2 c =
     let e = byte-idle (a .till) (now (a .frame)) (now (a .answer)) (now (a .buf)) (c .before .before .if1 .left) (a .b) free in (
       says (a .till) (now (a .buf)) (now (a .buf)) _ _ _ e (idle-stays (a .till) (now (a .frame)) (now (a .answer)) free),
       (
-        reads-in (a .till) (now (a .buf)) (now (a .buf)) (record { till = a .till; word = Idle }) _ _ e (now (a .answer)) _ (read-same (a .till .sent) (now (a .frame)) (now (a .answer))),
+        reads-in (a .till) (now (a .buf)) (now (a .buf)) (record { till = a .till; word = Idle }) _ _ e (now (a .answer)) _ (read-same (a .till .slot) (now (a .frame)) (now (a .answer))),
         puts (a .till) (now (a .buf)) _ (record { till = a .till; word = Idle }) _ _ e refl,
       ),
     )
@@ -48,8 +48,8 @@ returns-3 : tie.Need-returns-3
 returns-3 c =
     let a = c .before .before .before .before .before .before .before .before .before .before .before .args in
     let h = c .before .before .hear in
-    let x = c .before .before .before .before .before .before .before .sent .given .0 .0 in
-    let e = byte-held (a .till) (now (a .frame)) (now (a .answer)) (now (a .buf)) (c .before .before .before .before .before .before .before .before .before .if1 .left) (a .b) x (c .before .before .before .before .before .before .before .sent .given .1) in (
+    let x = c .before .before .before .before .before .before .before .slot .given .0 .0 in
+    let e = byte-held (a .till) (now (a .frame)) (now (a .answer)) (now (a .buf)) (c .before .before .before .before .before .before .before .before .before .if1 .left) (a .b) x (c .before .before .before .before .before .before .before .slot .given .1) in (
       says (a .till) (now (a .buf)) (now (a .buf)) (h .result) _ _ e
           (h .ensures .0 ∙ said-on (a .till) (a .till .next) (x .seq) (x .code) (take (x .count) (now (a .frame))) (x .tries) (byteMeans (x .seq) (x .code) (placeOf (x .reader) (now (a .answer))) (a .b))),
       (
@@ -61,4 +61,4 @@ returns-3 c =
 pub byte-spec : {M : Type 1} → statement M
 byte-spec =
     tie.close
-    (tie.spec returns enum-known-sent enum-told returns-2 hear-requires same-length returns-3)
+    (tie.spec returns enum-known-slot enum-told returns-2 hear-requires same-length returns-3)

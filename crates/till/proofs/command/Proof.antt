@@ -12,7 +12,7 @@ returns c =
     let a = c .before .before .before .args in (
       λ answer. says (a .till) (now (a .buf)) (now (a .buf)) _ _ _ (too-short (a .till) (now (a .frame)) answer (now (a .buf)) (command (a .code) (now (a .content))) (c .if1 .taken)) (all-stays (a .till) (now (a .frame)) answer TooShort refl),
       (
-        λ answer. frames-in (a .till) (now (a .buf)) (now (a .buf)) (record { till = a .till; word = TooShort }) _ _ (too-short (a .till) (now (a .frame)) answer (now (a .buf)) (command (a .code) (now (a .content))) (c .if1 .taken)) (now (a .frame)) _ (framed-same (a .till .sent) (now (a .frame)) answer),
+        λ answer. frames-in (a .till) (now (a .buf)) (now (a .buf)) (record { till = a .till; word = TooShort }) _ _ (too-short (a .till) (now (a .frame)) answer (now (a .buf)) (command (a .code) (now (a .content))) (c .if1 .taken)) (now (a .frame)) _ (framed-same (a .till .slot) (now (a .frame)) answer),
         λ answer. puts (a .till) (now (a .buf)) _ (record { till = a .till; word = TooShort }) _ _ (too-short (a .till) (now (a .frame)) answer (now (a .buf)) (command (a .code) (now (a .content))) (c .if1 .taken)) refl,
       ),
     )
@@ -28,7 +28,7 @@ returns-2 c =
     let a = c .before .before .before .before .before .args in (
       λ answer. says (a .till) (now (a .buf)) (now (a .buf)) _ _ _ (command-held (a .till) (now (a .frame)) answer (now (a .buf)) (c .before .before .if1 .left) (a .code) (now (a .content)) _ (c .enum-told2 .given .1)) (all-stays (a .till) (now (a .frame)) answer NotSent refl),
       (
-        λ answer. frames-in (a .till) (now (a .buf)) (now (a .buf)) (record { till = a .till; word = NotSent }) _ _ (command-held (a .till) (now (a .frame)) answer (now (a .buf)) (c .before .before .if1 .left) (a .code) (now (a .content)) _ (c .enum-told2 .given .1)) (now (a .frame)) _ (framed-same (a .till .sent) (now (a .frame)) answer),
+        λ answer. frames-in (a .till) (now (a .buf)) (now (a .buf)) (record { till = a .till; word = NotSent }) _ _ (command-held (a .till) (now (a .frame)) answer (now (a .buf)) (c .before .before .if1 .left) (a .code) (now (a .content)) _ (c .enum-told2 .given .1)) (now (a .frame)) _ (framed-same (a .till .slot) (now (a .frame)) answer),
         λ answer. puts (a .till) (now (a .buf)) _ (record { till = a .till; word = NotSent }) _ _ (command-held (a .till) (now (a .frame)) answer (now (a .buf)) (c .before .before .if1 .left) (a .code) (now (a .content)) _ (c .enum-told2 .given .1)) refl,
       ),
     )

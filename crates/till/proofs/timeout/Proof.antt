@@ -15,8 +15,8 @@ returns c =
       λ answer. puts (a .till) (now (a .buf)) _ (record { till = a .till; word = TooShort }) _ _ (too-short (a .till) (now (a .frame)) answer (now (a .buf)) timeout (c .if1 .taken)) refl,
     )
 
-enum-known-sent : tie.Need-enum-known-sent
-enum-known-sent c = search needs
+enum-known-slot : tie.Need-enum-known-slot
+enum-known-slot c = search needs
 
 enum-told : tie.Need-enum-told
 enum-told c = search needs
@@ -39,10 +39,10 @@ returns-3 : tie.Need-returns-3
 returns-3 c =
     let a = c .before .before .before .before .before .before .before .before .before .before .args in
     let h = c .before .before .failed-try in
-    let x = c .before .before .before .before .before .before .sent .given .0 .0 in (
-      λ answer. says (a .till) (now (a .buf)) (now (a .buf)) (h .result) _ _ (timeout-held (a .till) (now (a .frame)) answer (now (a .buf)) (c .before .before .before .before .before .before .before .before .if1 .left) x (c .before .before .before .before .before .before .sent .given .1))
+    let x = c .before .before .before .before .before .before .slot .given .0 .0 in (
+      λ answer. says (a .till) (now (a .buf)) (now (a .buf)) (h .result) _ _ (timeout-held (a .till) (now (a .frame)) answer (now (a .buf)) (c .before .before .before .before .before .before .before .before .if1 .left) x (c .before .before .before .before .before .before .slot .given .1))
           (h .ensures .0 ∙ said-on (a .till) (a .till .next) (x .seq) (x .code) (take (x .count) (now (a .frame))) (x .tries) failed),
-      λ answer. puts (a .till) (now (a .buf)) _ (h .result) _ _ (timeout-held (a .till) (now (a .frame)) answer (now (a .buf)) (c .before .before .before .before .before .before .before .before .if1 .left) x (c .before .before .before .before .before .before .sent .given .1)) (h .ensures .1),
+      λ answer. puts (a .till) (now (a .buf)) _ (h .result) _ _ (timeout-held (a .till) (now (a .frame)) answer (now (a .buf)) (c .before .before .before .before .before .before .before .before .if1 .left) x (c .before .before .before .before .before .before .slot .given .1)) (h .ensures .1),
     )
 
 pub timeout-spec : {M : Type 1} → statement M
@@ -50,7 +50,7 @@ timeout-spec =
     tie.close
     (tie.spec
     returns
-    enum-known-sent
+    enum-known-slot
     enum-told
     returns-2
     failed-try-requires
