@@ -51,11 +51,11 @@ use Rattle.promises.proofs.TillRows.{triesOf}
 use Rattle.promises.proofs.Sizes.{Sized, turn-fits, answer-length}
 
 -- the device's fields and arrays, at the sizes that their types give, with books that a fresh device comes to
-record DeviceOk (l : Line) (b : Books) (frame last : List ℕ) : Type 0 where
-  frames : length frame ≡ 256
-  lasts : length last ≡ 217
-  short : Underway Command (placeOf (l .reader) frame)
-  reached : Reached b
+pub record DeviceOk (l : Line) (b : Books) (frame last : List ℕ) : Type 0 where
+  pub frames : length frame ≡ 256
+  pub lasts : length last ≡ 217
+  pub short : Underway Command (placeOf (l .reader) frame)
+  pub reached : Reached b
 
 -- at most 217 bytes are given back: an answer, or the last one
 answer-few : (b : Books) (m : Message) → Reached b → length (carry b m .answer) ≤ 217
@@ -137,11 +137,12 @@ module _ (l : Line) (b : Books) (frame last : List ℕ) (ok : DeviceOk l b frame
         result call = record { number = refl; count = refl; bytes = front-stands buffer (turned e .gives) (omega (arith, few, room)); buffer = refl; state = back }
 
 -- a part of bytes heard, by the table
-record HeardBy (t : till.State) (l : Line) (b : Books) (frame last buffer bytes : List ℕ) (p : PartHeard) : Type 0 where
-  reply : FromDevice
-  by : PartByTheTable buffer (record { device = device.stateOf l b frame last; till = t }) bytes (p .hearing .taken) reply
-  result : DeviceResult p reply
-  ok : DeviceOk (p .hearing .given .line) (p .hearing .given .books) (p .frame) (p .last)
+pub record HeardBy (t : till.State) (l : Line) (b : Books) (frame last buffer bytes : List ℕ) (p : PartHeard) : Type 0 where
+  pub reply : FromDevice
+  pub by : PartByTheTable buffer (record { device = device.stateOf l b frame last; till = t }) bytes (p .hearing .taken) reply
+  pub result : DeviceResult p reply
+  pub few : p .hearing .given .count ≤ 217
+  pub ok : DeviceOk (p .hearing .given .line) (p .hearing .given .books) (p .frame) (p .last)
 
 module _ (t : till.State) (buffer : List ℕ) (room : 217 ≤ length buffer) where
   asked : (l : Line) (b : Books) (frame last : List ℕ) (ok : DeviceOk l b frame last) (x : ℕ) (bytes : List ℕ) (e : Event) (call : Call)
@@ -152,6 +153,7 @@ module _ (t : till.State) (buffer : List ℕ) (room : 217 ≤ length buffer) whe
         reply = ofDevice buffer (turned l b frame last ok x buffer e);
         by = asking-byte room (subst (λ z. isAsking z ≡ true) (sym is) some) (by-event l b frame last ok x buffer e is room t);
         result = result l b frame last ok x buffer e is room t call;
+        few = few l b frame last ok x buffer e is;
         ok = ok-after l b frame last ok x buffer e is;
       }
 
@@ -162,6 +164,7 @@ module _ (t : till.State) (buffer : List ℕ) (room : 217 ≤ length buffer) whe
         reply = tells 0 [] buffer (device.stateOf l b frame last);
         by = no-byte room;
         result = record { number = refl; count = refl; bytes = refl; buffer = refl; state = refl };
+        few = omega arith;
         ok = ok;
       }
   parts l b frame last ok (x ∷ xs) = go (λ l2 b2 frame2 last2 ok2. parts l2 b2 frame2 last2 ok2 xs) (at l b frame last ok x buffer .event) refl
@@ -186,6 +189,7 @@ module _ (t : till.State) (buffer : List ℕ) (room : 217 ≤ length buffer) whe
                 (hearing (a nothing .given .line) (a nothing .given .books) (a nothing .frame) (a nothing .last) buffer xs .hearing .taken) (rest .reply))
                 (back l b frame last ok x buffer nothing is) (rest .by));
             result = record { number = rest .result .number; count = rest .result .count; bytes = rest .result .bytes; buffer = rest .result .buffer; state = rest .result .state };
+            few = rest .few;
             ok = rest .ok;
           }
       go heard-on brokenFrame is = asked l b frame last ok x xs brokenFrame Nak is refl
@@ -200,7 +204,7 @@ module _ (t : till.State) (buffer : List ℕ) (room : 217 ≤ length buffer) whe
           by-repeat false = asked l b frame last ok x xs (heard m) (Order (m .seq) (m .code) (length (m .content))) is refl
 
 -- one call of the device
-device-called : (t : till.State) (l : Line) (b : Books) (frame last : List ℕ) → DeviceOk l b frame last → (buffer bytes : List ℕ)
+pub device-called : (t : till.State) (l : Line) (b : Books) (frame last : List ℕ) → DeviceOk l b frame last → (buffer bytes : List ℕ)
     → HeardBy t l b frame last buffer bytes (afterPart l b frame last buffer bytes)
 device-called t l b frame last ok buffer bytes = go (ltb (length buffer) 217) refl
   where
@@ -214,6 +218,7 @@ device-called t l b frame last ok buffer bytes = go (ltb (length buffer) 217) re
           reply = tells 7 [] buffer (device.stateOf l b frame last);
           by = not-taken (ltb-true (length buffer) 217 e) (λ byte. at-device (row-7 (ltb-true (length buffer) 217 e)));
           result = record { number = refl; count = refl; bytes = refl; buffer = refl; state = refl };
+          few = omega arith;
           ok = ok;
         }
     go false e = parts t buffer (ltb-false (length buffer) 217 e) l b frame last ok bytes
@@ -335,6 +340,10 @@ all-calls f ok (happens buffer h ∷ calls) =
     (subst (λ s. CodeByTheTable (record { device = benchOf f .device; till = s }) (handedOn f (happens buffer h)) calls) (follows f (ok .till) buffer h)
     (all-calls (handedOn f (happens buffer h)) (record { device = ok .device; till = till-after f (ok .till) buffer h }) calls))
 
+pub fresh-device : (f : Machines) → Fresh f → DeviceOk (f .line) (f .books) (f .frame) (f .last)
+fresh-device f fresh =
+    record { frames = fresh .frame; lasts = fresh .last; short = rw (fresh .line) tt; reached = rw (fresh .books) fresh-reached }
+
 -- the theorem
 pub the-code-replies-by-the-table : (f : Machines) → Fresh f → (calls : List CodeCall) → CodeByTheTable freshBench f calls
 the-code-replies-by-the-table f fresh calls =
@@ -346,12 +355,7 @@ the-code-replies-by-the-table f fresh calls =
     fresh-ok : Ok f
     fresh-ok =
         record {
-          device = record {
-            frames = fresh .frame;
-            lasts = fresh .last;
-            short = rw (fresh .line) tt;
-            reached = rw (fresh .books) fresh-reached;
-          };
+          device = fresh-device f fresh;
           till = record {
             small = rw (fresh .till) tt;
             frames = fresh .sent;

@@ -7,6 +7,7 @@ pub mod Rows
 pub mod Sizes
 pub mod Parts
 pub mod Coded
+pub mod Through
 pub mod Joining
 pub mod Demand2
 pub mod Telling
