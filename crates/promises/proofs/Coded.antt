@@ -27,6 +27,10 @@ all-calls f ok (happens buffer h ∷ calls) =
     (subst (λ s. CodeByTheTable (record { device = benchOf f .device; till = s }) (handedOn f (happens buffer h)) calls) (follows f (ok .till) buffer h)
     (all-calls (handedOn f (happens buffer h)) (record { device = ok .device; till = till-after f (ok .till) buffer h }) calls))
 
+pub fresh-device : (f : Machines) → Fresh f → DeviceOk (f .line) (f .books) (f .frame) (f .last)
+fresh-device f fresh =
+    record { frames = fresh .frame; lasts = fresh .last; short = rw (fresh .line) tt; reached = rw (fresh .books) fresh-reached }
+
 -- the theorem
 pub the-code-replies-by-the-table : (f : Machines) → Fresh f → (calls : List CodeCall) → CodeByTheTable freshBench f calls
 the-code-replies-by-the-table f fresh calls =
@@ -38,12 +42,7 @@ the-code-replies-by-the-table f fresh calls =
     fresh-ok : Ok f
     fresh-ok =
         record {
-          device = record {
-            frames = fresh .frame;
-            lasts = fresh .last;
-            short = rw (fresh .line) tt;
-            reached = rw (fresh .books) fresh-reached;
-          };
+          device = fresh-device f fresh;
           till = record {
             small = rw (fresh .till) tt;
             frames = fresh .sent;

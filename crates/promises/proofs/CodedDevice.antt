@@ -129,6 +129,7 @@ pub record HeardBy (t : till.State) (l : Line) (b : Books) (frame last buffer by
   pub reply : FromDevice
   pub by : PartByTheTable buffer (record { device = device.stateOf l b frame last; till = t }) bytes (p .hearing .taken) reply
   pub result : DeviceResult p reply
+  pub few : p .hearing .given .count ≤ 217
   pub ok : DeviceOk (p .hearing .given .line) (p .hearing .given .books) (p .frame) (p .last)
 
 module _ (t : till.State) (buffer : List ℕ) (room : 217 ≤ length buffer) where
@@ -140,6 +141,7 @@ module _ (t : till.State) (buffer : List ℕ) (room : 217 ≤ length buffer) whe
         reply = ofDevice buffer (turned l b frame last ok x buffer e);
         by = asking-byte room (subst (λ z. isAsking z ≡ true) (sym is) some) (by-event l b frame last ok x buffer e is room t);
         result = result l b frame last ok x buffer e is room t call;
+        few = few l b frame last ok x buffer e is;
         ok = ok-after l b frame last ok x buffer e is;
       }
 
@@ -150,6 +152,7 @@ module _ (t : till.State) (buffer : List ℕ) (room : 217 ≤ length buffer) whe
         reply = tells 0 [] buffer (device.stateOf l b frame last);
         by = no-byte room;
         result = record { number = refl; count = refl; bytes = refl; buffer = refl; state = refl };
+        few = omega arith;
         ok = ok;
       }
   parts l b frame last ok (x ∷ xs) = go (λ l2 b2 frame2 last2 ok2. parts l2 b2 frame2 last2 ok2 xs) (at l b frame last ok x buffer .event) refl
@@ -174,6 +177,7 @@ module _ (t : till.State) (buffer : List ℕ) (room : 217 ≤ length buffer) whe
                 (hearing (a nothing .given .line) (a nothing .given .books) (a nothing .frame) (a nothing .last) buffer xs .hearing .taken) (rest .reply))
                 (back l b frame last ok x buffer nothing is) (rest .by));
             result = record { number = rest .result .number; count = rest .result .count; bytes = rest .result .bytes; buffer = rest .result .buffer; state = rest .result .state };
+            few = rest .few;
             ok = rest .ok;
           }
       go heard-on brokenFrame is = asked l b frame last ok x xs brokenFrame Nak is refl
@@ -202,6 +206,7 @@ device-called t l b frame last ok buffer bytes = go (ltb (length buffer) 217) re
           reply = tells 7 [] buffer (device.stateOf l b frame last);
           by = not-taken (ltb-true (length buffer) 217 e) (λ byte. at-device (row-7 (ltb-true (length buffer) 217 e)));
           result = record { number = refl; count = refl; bytes = refl; buffer = refl; state = refl };
+          few = omega arith;
           ok = ok;
         }
     go false e = parts t buffer (ltb-false (length buffer) 217 e) l b frame last ok bytes

@@ -32,7 +32,9 @@ use Rattle.till.specs.History.{history, heardBytes, words, behind}
 use Rattle.till.specs.History as till
 use Rattle.till.specs.declared.Word.the-variants.{Waiting, Answered}
 use Rattle.till.proofs.Frames.{answer-heard}
+use Rattle.promises.specs.Coded.{Machines, Fresh, HeardThrough}
 use Rattle.promises.specs.Demand2.{LentByte, alwaysLent, turnBy, turnsOf, deviceAfter, allGiven, allCarried, dataIn, freshDevice, entriesOf, booksAfter, cashIn}
+use Rattle.promises.proofs.Through.{the-calls-are-the-recording}
 use Rattle.promises.proofs.Joining.{deed-reached, any-history-reached, any-history-agrees, device-after-one, session-turns, cash-in-answer}
 use Rattle.promises.proofs.Verdicts.{Right, syntax, no-kind, is-read, parsed-right, right-priced}
 
@@ -102,6 +104,10 @@ the-entries-tell-the-books arrived = agreed-is-told (entriesOf arrived) (booksAf
 
 pub and-those-of-a-recording : (bytes : List ℕ) → recording bytes .state .books ≡ toldBooks (entriesOf (alwaysLent bytes))
 and-those-of-a-recording bytes = ap (λ (z : Session Books). z .state .books) (a-recording-is-its-turns bytes) ∙ the-entries-tell-the-books (alwaysLent bytes)
+
+-- and those behind all calls of the running code, in whatever parts and with whatever buffers it hears the bytes
+pub and-those-of-the-calls : (f g : Machines) → Fresh f → (bytes gives : List ℕ) → HeardThrough f bytes gives g → g .books ≡ toldBooks (entriesOf (alwaysLent bytes))
+and-those-of-the-calls f g fresh bytes gives h = the-calls-are-the-recording f g fresh bytes gives h .1 ∙ and-those-of-a-recording bytes
 
 -- "No field shown ever passes its digits."
 pub every-field-fits : (arrived : List LentByte) → InDigits (booksAfter arrived)

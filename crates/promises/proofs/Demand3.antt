@@ -31,7 +31,9 @@ use Rattle.till.specs.Handed.{Handed, handedIn, AllInPlace}
 use Rattle.till.proofs.Handing.{seqs-differ, frames-are-tries}
 use Rattle.device.specs.Carrying.{carry}
 use Rattle.device.specs.Recording.{recording, listing, toldIn}
+use Rattle.promises.specs.Coded.{Machines, Fresh, HeardThrough}
 use Rattle.promises.specs.Demand3.{eachArrives, allArrive, eachOneWhole, framesArriving, bytesArriving, takenCommands, overTheLine}
+use Rattle.promises.proofs.Through.{the-calls-are-the-recording}
 
 -- the list is carried out, each command once and in order, and the books are those of carrying it out by demand 2's rules (`carry`)
 pub carries-out-the-list : (cs : List Sent) → delivery cs ≡ true
@@ -70,7 +72,15 @@ ended-by-the-next-try = ended-by-the-next carry
 pub different-lists-differ : (cs ds : List Sent) → delivery cs ≡ true → delivery ds ≡ true → allArriving cs ≡ allArriving ds → commands cs ≡ commands ds
 different-lists-differ = same-bytes-same-list
 
--- the running code: `device::hear_all` promises `toldIn` of the recording, so that the list it lists and the books it hands back are these
+-- the running code: whatever buffers are lent to `device::hear`, and in whatever parts the bytes are heard, as `printer` hears them: the books behind the
+-- calls are those of the list, and all that was given back is what these theorems speak of
+pub the-calls-carry-out-the-list : (f g : Machines) → Fresh f → (cs : List Sent) → delivery cs ≡ true → (gives : List ℕ) → HeardThrough f (allArriving cs) gives g
+    → (g .books ≡ carryAll carry freshBooks (commands cs)) × (gives ≡ recording (allArriving cs) .gives)
+the-calls-carry-out-the-list f g fresh cs e gives h =
+    let same = the-calls-are-the-recording f g fresh (allArriving cs) gives h in
+    (same .1 ∙ carries-out-the-list cs e .1, same .0)
+
+-- and `device::hear_all` promises `toldIn` of the recording, so that the list it lists and the books it hands back are these
 pub the-code-tells-the-list : (cs : List Sent) → delivery cs ≡ true → (out orders : List ℕ)
     → (toldIn out orders (recording (allArriving cs)) .recorded .books ≡ carryAll carry freshBooks (commands cs))
     × (toldIn out orders (recording (allArriving cs)) .orders ≡ sets orders 0 (listing (commands cs)))

@@ -9,6 +9,7 @@ pub mod Parts
 pub mod CodedDevice
 pub mod CodedTill
 pub mod Coded
+pub mod Through
 pub mod Joining
 pub mod Demand2
 pub mod Telling

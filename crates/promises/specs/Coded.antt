@@ -3,8 +3,8 @@
 use Prim.Native.Nat.{ℕ, _+_, _≤_, _<_}
 use mathlib.Core.Path.{_≡_}
 use mathlib.Core.Bool.{Bool, true, false}
-use mathlib.Core.List.{List, [], _∷_}
-use lib.ListN.{length, take}
+use mathlib.Core.List.{List, [], _∷_, _++_}
+use lib.ListN.{length, take, drop}
 use lib.Seq.{sets}
 use Rattle.reader.specs.Reading.{outside, Event, nothing, brokenFrame, heard}
 use Rattle.reader.specs.Fields.{readerOf}
@@ -140,3 +140,11 @@ pub data CodeByTheTable : Bench → Machines → List CodeCall → Type 0 where
   till-call : {s : Bench} {f : Machines} {buffer : List ℕ} {h : till.Happening} {calls : List CodeCall} (r : FromTill)
       → ByTheTable s (atTill buffer h) (fromTill r) → TillResult f buffer h r
       → CodeByTheTable (benchAfter s (fromTill r)) (handedOn f (happens buffer h)) calls → CodeByTheTable s f (happens buffer h ∷ calls)
+
+-- calls of `device::hear`, with any buffer lent each time, until every byte of the line is taken: each hears a part of what is not taken yet, as `printer`
+-- does with all that it reads. What they give back, one after the other, and the fields and arrays behind them
+pub data HeardThrough : Machines → (bytes gives : List ℕ) → Machines → Type 0 where
+  all-taken : {f : Machines} → HeardThrough f [] [] f
+  one-call : {f g : Machines} {gives : List ℕ} (buffer part rest : List ℕ)
+      → HeardThrough (handedOn f (hear buffer part)) (drop (partAfter f buffer part .hearing .taken) part ++ rest) gives g
+      → HeardThrough f (part ++ rest) (take (partAfter f buffer part .hearing .given .count) (partAfter f buffer part .buffer) ++ gives) g
