@@ -7,7 +7,7 @@ use native.Mathlib.Omega.{arith}
 use lib.Dec.{ltb}
 use lib.ListN.{length, getD, take, drop}
 use borrow.Author.Tests.{lt-ltb, le-ltb}
-use Rattle.figures.specs.Parts.{place, has, upTo, past}
+use Rattle.figures.specs.Parts.{firstAt, has, upTo, past}
 use Rattle.figures.proofs.Cutting.{place-within, to-end}
 use Rattle.kinds.specs.Plain.{sumsOf, closingOf}
 use Rattle.kinds.specs.declared.Parsed.the-variants.{Syntax}
@@ -29,7 +29,7 @@ closing-long (x ∷ []) f = absurd (f refl)
 closing-long (x ∷ y ∷ s) f = refl
 
 -- the first b found, as the code finds it
-module _ (b : ℕ) (s : List ℕ) (at : ℕ) (e : at ≡ place b s) where
+module _ (b : ℕ) (s : List ℕ) (at : ℕ) (e : at ≡ firstAt b s) where
   pub found : at < length s → has b s ≡ true
   found h = ap (λ n. ltb n (length s)) (sym e) ∙ lt-ltb at (length s) h
 

@@ -5,7 +5,7 @@ use mathlib.Core.List.{List, []}
 use lib.Dec.{leb}
 use lib.ListN.{length}
 use Rattle.wire.specs.Bytes.{every}
-use Rattle.figures.specs.Parts.{place, has, upTo, past}
+use Rattle.figures.specs.Parts.{firstAt, has, upTo, past}
 use Rattle.lines.specs.declared.Found.{Found}
 use Rattle.lines.specs.declared.Found.the-variants.{At, NotThere}
 
@@ -29,7 +29,7 @@ beginsWithTexts s = has tab s && areTexts (upTo tab s)
 
 -- where the rest begins. "Data not of the form shown is 1": NotThere is reply number 1.
 abbrev pub restOf : List ℕ → Found
-restOf s = cond (beginsWithTexts s) (At (place tab s + 1)) NotThere
+restOf s = cond (beginsWithTexts s) (At (firstAt tab s + 1)) NotThere
 
 -- "The line of text handed on is the part of the frame's own bytes": L1 and L2, each of no bytes where it is left out
 abbrev pub firstLine : List ℕ → List ℕ
