@@ -11,7 +11,7 @@ use borrow.Author.Tests.{le-leb, lt-leb, lt-ltb, le-ltb, ltb-true}
 use Rattle.wire.specs.Bytes.{every}
 use Rattle.wire.proofs.Suits.{both}
 use Rattle.figures.specs.Parts.{firstAt, has, upTo, past}
-use Rattle.lines.specs.Texts.{tab, lineFeed, isText, areTexts, beginsWithTexts, restOf, firstLine, secondLine}
+use Rattle.lines.specs.Texts.{tab, lineFeed, isText, areTexts, beginsWithTexts, restOf, onlyLine, firstLine, secondLine}
 use Rattle.figures.proofs.Cutting.{place-within, drop-take}
 use Rattle.lines.specs.declared.Found.{Found}
 use Rattle.lines.specs.declared.Found.the-variants.{At, NotThere}
@@ -21,6 +21,12 @@ text-long s h = rw (lt-leb (length s) 42 h)
 
 pub text-short : (s : List ℕ) → length s ≤ 42 → isText s ≡ every (leb 0x20) s
 text-short s h = rw (le-leb (length s) 42 h)
+
+pub only-is : (s : List ℕ) → isText s ≡ true → s ≡ onlyLine s
+only-is s e = sym (ap (λ t. cond t s []) e)
+
+pub only-none : (s : List ℕ) → isText s ≡ false → [] ≡ onlyLine s
+only-none s e = sym (ap (λ t. cond t s []) e)
 
 -- what stands before the Tab, cut at any place
 abbrev textsAt : List ℕ → ℕ → Bool
