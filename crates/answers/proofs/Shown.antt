@@ -1,11 +1,11 @@
 -- What is shown can be sent: the data is short enough and of bytes that may stand there, and so are the six status bytes.
 use mathlib.Core.Path.{_≡_, refl, sym, ap, _∙_}
-use mathlib.Core.Bool.{Bool, true, false, _||_}
+use mathlib.Core.Bool.{Bool, true, false}
 use mathlib.Core.List.{List, [], _∷_, _++_, map}
 use Prim.Native.Nat.{ℕ, zero, suc, _+_, _*_, _/_, _%_, _^_, _≤_, _<_}
 use native.Mathlib.Nat.{mod-lt, mod-eq-of-lt, one-le-pow}
 use native.Mathlib.Omega.{arith}
-use lib.Dec.{leb, eqb}
+use lib.Dec.{leb}
 use lib.ListN.{length, length-append}
 use borrow.Author.Tests.{le-leb, ne-eqb}
 use Rattle.text.specs.Digits.{digits, number}
@@ -17,13 +17,12 @@ use Rattle.wire.proofs.Building.{sendable-answer}
 use Rattle.wire.specs.declared.Kind.the-variants.{Answer}
 use Rattle.wire.specs.declared.Sort.the-variants.{Mark, Data, Status}
 use Rattle.books.specs.Rates.{capacity}
-use Rattle.books.specs.Books.{freshBooks}
 use Rattle.books.specs.declared.Books.{Books}
 use Rattle.books.specs.declared.Shown.{Shown}
 use Rattle.books.specs.declared.Shown.the-variants as shown
 use Rattle.answers.specs.Contents.{commaEach, commas, taxesFrom, ratesText, letter, contentOf}
 use Rattle.books.specs.Books.{fiscalOpen, textOpen}
-use Rattle.answers.specs.Status.{bit, verdict0, verdict1, receipts, memories, statusOf}
+use Rattle.answers.specs.Status.{bit, tellsSyntax, tellsUnknown, tellsOverflow, tellsRefused, anyVerdict, verdict0, verdict1, receipts, memories, statusOf}
 
 -- a field shows its number exactly where the number fits
 pub field-shows : (width n : ℕ) → (n < 10 ^ width → number 0 (digits width n) ≡ n) × (number 0 (digits width n) ≡ n → n < 10 ^ width)
@@ -108,8 +107,8 @@ status-high : (n : ℕ) (b : Books) → High (statusOf n b)
 status-high n b =
     let k = b .memory .closings in
     let o = b .opened in
-    byte (verdict0 n) (omega arith) (omega (arith, bit-most 0x01 (eqb n 1), bit-most 0x02 (eqb n 2), bit-most 0x20 (leb 1 n)))
-    (byte (verdict1 n) (omega arith) (omega (arith, bit-most 0x01 (eqb n 4), bit-most 0x02 (eqb n 3 || eqb n 4)))
+    byte (verdict0 n) (omega arith) (omega (arith, bit-most 0x01 (tellsSyntax n), bit-most 0x02 (tellsUnknown n), bit-most 0x20 (anyVerdict n)))
+    (byte (verdict1 n) (omega arith) (omega (arith, bit-most 0x01 (tellsOverflow n), bit-most 0x02 (tellsRefused n)))
     (byte (receipts o) (omega arith) (omega (arith, bit-most 0x08 (fiscalOpen o), bit-most 0x20 (textOpen o)))
     (byte 0x80 (omega arith) (omega arith)
     (byte (memories k) (omega arith) (omega (arith, bit-most 0x08 (leb capacity (k + 50)), bit-most 0x10 (leb capacity k), bit-most 0x20 (leb capacity k)))
@@ -121,14 +120,11 @@ status-six n b = refl
 pub status-stands : (n : ℕ) (b : Books) → every (mayStand Status) (statusOf n b) ≡ true
 status-stands n b = high-pass (mayStand Status) (λ x low high. rw (le-leb 0x80 x low, le-leb x 0xFF high)) (status-high n b)
 
--- the text of 97 and the status of a fresh device, byte for byte
+-- the text of 97, byte for byte
 pub rates-shown : ratesText
     ≡ 0x30 ∷ 0x30 ∷ 0x2E ∷ 0x30 ∷ 0x30 ∷ 0x2C ∷ 0x32 ∷ 0x30 ∷ 0x2E ∷ 0x30 ∷ 0x30 ∷ 0x2C ∷ 0x32 ∷ 0x30 ∷ 0x2E ∷ 0x30 ∷ 0x30 ∷ 0x2C ∷ 0x30 ∷ 0x39 ∷ 0x2E ∷ 0x30 ∷ 0x30 ∷ 0x2C ∷ 0x2C ∷ 0x2C ∷ 0x2C ∷ []
 unfolding digits
 rates-shown = refl
-
-pub fresh-status : statusOf 0 freshBooks ≡ 0x80 ∷ 0x80 ∷ 0x80 ∷ 0x80 ∷ 0x86 ∷ 0x9A ∷ []
-fresh-status = refl
 
 -- every answer's data, for books whose lists are of eight
 module _ (day : List ℕ) (b : Books) where

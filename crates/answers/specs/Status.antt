@@ -12,12 +12,28 @@ use Rattle.books.specs.Books.{fiscalOpen, textOpen}
 abbrev pub bit : ℕ → Bool → ℕ
 bit value set = cond set value 0
 
--- "This command's verdict: 0.0, 0.1, 1.0, 1.1; 0.5 is their or": 1 syntax 0.0, 2 unknown 0.1, 3 not permitted 1.1, 4 overflow 1.0 and 1.1
+-- "Reply numbers": 1 syntax sets 0.0, 2 unknown command 0.1, 3 not permitted now 1.1, 4 overflow 1.0 and 1.1
+abbrev pub tellsSyntax : ℕ → Bool
+tellsSyntax number = eqb number 1
+
+abbrev pub tellsUnknown : ℕ → Bool
+tellsUnknown number = eqb number 2
+
+abbrev pub tellsOverflow : ℕ → Bool
+tellsOverflow number = eqb number 4
+
+abbrev pub tellsRefused : ℕ → Bool
+tellsRefused number = eqb number 3 || eqb number 4
+
+-- "This command's verdict: 0.0, 0.1, 1.0, 1.1; 0.5 is their or"
+abbrev pub anyVerdict : ℕ → Bool
+anyVerdict number = tellsSyntax number || tellsUnknown number || tellsOverflow number || tellsRefused number
+
 abbrev pub verdict0 : ℕ → ℕ
-verdict0 number = 0x80 + bit 0x01 (eqb number 1) + bit 0x02 (eqb number 2) + bit 0x20 (leb 1 number)
+verdict0 number = 0x80 + bit 0x01 (tellsSyntax number) + bit 0x02 (tellsUnknown number) + bit 0x20 (anyVerdict number)
 
 abbrev pub verdict1 : ℕ → ℕ
-verdict1 number = 0x80 + bit 0x01 (eqb number 4) + bit 0x02 (eqb number 3 || eqb number 4)
+verdict1 number = 0x80 + bit 0x01 (tellsOverflow number) + bit 0x02 (tellsRefused number)
 
 -- "After the command: 2.3 fiscal receipt open, 2.5 non-fiscal open"
 abbrev pub receipts : Opened → ℕ

@@ -1,8 +1,9 @@
 -- Document 01, "Commands (decimal)": "Once read, a command is one of fourteen kinds, each with its own fields".
 use Prim.Native.Nat.{ℕ}
 use mathlib.Core.Bool.{cond}
-use mathlib.Core.List.{List}
+use mathlib.Core.List.{List, []}
 use lib.Dec.{eqb}
+use Rattle.lines.specs.Texts.{onlyLine, firstLine, secondLine}
 use Rattle.kinds.specs.Plain.{bareOf, textOf, openOf, subtotalOf, sumsOf, closingOf}
 use Rattle.command.specs.Money.{sellOf, payOf, drawerOf}
 use Rattle.kinds.specs.declared.Command.the-variants.{OpenText, CloseText, Close, Cancel, Status, Rates}
@@ -27,3 +28,18 @@ parsedOf code s =
     (cond (eqb code 74) (bareOf Status s)
     (cond (eqb code 97) (bareOf Rates s)
     Unknown)))))))))))))
+
+-- "The line of text handed on is the part of the frame's own bytes": the texts of a command, for whoever shows them. 42 has one, 49 and 53 have
+-- L1 and L2, the others none
+abbrev pub firstText : ℕ → List ℕ → List ℕ
+firstText code s =
+    cond (eqb code 42) (onlyLine s)
+    (cond (eqb code 49) (firstLine s)
+    (cond (eqb code 53) (firstLine s)
+    []))
+
+abbrev pub secondText : ℕ → List ℕ → List ℕ
+secondText code s =
+    cond (eqb code 49) (secondLine s)
+    (cond (eqb code 53) (secondLine s)
+    [])

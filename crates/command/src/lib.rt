@@ -5,7 +5,7 @@ use kinds::Command;
 use kinds::Parsed;
 use kinds::plain;
 ghost use mathlib.Core.Path.{_≡_};
-ghost use Rattle.command.specs.Commands.{parsedOf};
+ghost use Rattle.command.specs.Commands.{parsedOf, firstText, secondText};
 
 pub fn parse(code: u8, bytes: &[u8]) -> Parsed
     ensures { λ r. ⌜ r ≡ parsedOf code (now (bytes .entry)) ⌝ }
@@ -26,5 +26,28 @@ pub fn parse(code: u8, bytes: &[u8]) -> Parsed
         74 => plain::bare(Command::Status, bytes),
         97 => plain::bare(Command::Rates, bytes),
         _ => Parsed::Unknown,
+    }
+}
+
+// The text of 42, or L1 of 49 or 53: a part of the data.
+pub fn first_text(code: u8, bytes: &[u8]) -> &[u8]
+    ensures { λ r. ⌜ now r ≡ firstText code (now (bytes .entry)) ⌝ }
+{
+    match code {
+        42 => lines::only_line(bytes),
+        49 => lines::first_line(bytes),
+        53 => lines::first_line(bytes),
+        _ => &bytes[..0],
+    }
+}
+
+// L2 of 49 or 53.
+pub fn second_text(code: u8, bytes: &[u8]) -> &[u8]
+    ensures { λ r. ⌜ now r ≡ secondText code (now (bytes .entry)) ⌝ }
+{
+    match code {
+        49 => lines::second_line(bytes),
+        53 => lines::second_line(bytes),
+        _ => &bytes[..0],
     }
 }

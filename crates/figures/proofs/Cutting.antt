@@ -9,29 +9,29 @@ use lib.Dec.{eqb}
 use lib.ListN.{length, getD, take, drop, length-drop, drop-of-length-le}
 use lib.Seq.{drop-cons, length-take-le, take-all, take-nil}
 use borrow.Author.Tests.{eq-eqb, ne-eqb}
-use Rattle.figures.specs.Parts.{place}
+use Rattle.figures.specs.Parts.{firstAt}
 use Rattle.figures.specs.Numbers.{begins, unsigned}
 
 -- what is still to be passed from i on
 module _ (b : ℕ) (xs : List ℕ) (i : ℕ) where
-  pub place-turn : i < length xs → (getD xs i 0 ≡ b → ⊥) → i + place b (drop i xs) ≡ i + 1 + place b (drop (i + 1) xs)
+  pub place-turn : i < length xs → (getD xs i 0 ≡ b → ⊥) → i + firstAt b (drop i xs) ≡ i + 1 + firstAt b (drop (i + 1) xs)
   place-turn h e = rw (add-one, drop-cons xs i 0, ne-eqb (getD xs i 0) b e) (omega arith)
 
-  pub place-found : i < length xs → getD xs i 0 ≡ b → i + place b (drop i xs) ≡ i
+  pub place-found : i < length xs → getD xs i 0 ≡ b → i + firstAt b (drop i xs) ≡ i
   place-found h e = rw (drop-cons xs i 0, eq-eqb (getD xs i 0) b e) (omega arith)
 
-  pub place-done : length xs ≤ i → i + place b (drop i xs) ≡ i
+  pub place-done : length xs ≤ i → i + firstAt b (drop i xs) ≡ i
   place-done h = rw (drop-of-length-le xs h) (omega arith)
 
-pub place-within : (b : ℕ) (xs : List ℕ) → place b xs ≤ length xs
+pub place-within : (b : ℕ) (xs : List ℕ) → firstAt b xs ≤ length xs
 place-within b [] = omega arith
 place-within b (x ∷ xs) = go (eqb x b) (place-within b xs)
   where
-    go : (found : Bool) → place b xs ≤ length xs → cond found 0 (suc (place b xs)) ≤ suc (length xs)
+    go : (found : Bool) → firstAt b xs ≤ length xs → cond found 0 (suc (firstAt b xs)) ≤ suc (length xs)
     go true h = omega arith
     go false h = omega arith
 
-pub cut-length : (b : ℕ) (xs : List ℕ) (at : ℕ) → at ≡ place b xs → at ≡ length (take at xs)
+pub cut-length : (b : ℕ) (xs : List ℕ) (at : ℕ) → at ≡ firstAt b xs → at ≡ length (take at xs)
 cut-length b xs at found = sym (length-take-le at xs (omega (arith, place-within b xs)))
 
 -- the part from i to the end

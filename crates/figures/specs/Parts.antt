@@ -6,17 +6,17 @@ use lib.Dec.{ltb, eqb}
 use lib.ListN.{length, take, drop}
 
 -- where the first b stands; the length where there is none
-abbrev pub place : ℕ → List ℕ → ℕ
-place b [] = 0
-place b (x ∷ xs) = cond (eqb x b) 0 (suc (place b xs))
+abbrev pub firstAt : ℕ → List ℕ → ℕ
+firstAt b [] = 0
+firstAt b (x ∷ xs) = cond (eqb x b) 0 (suc (firstAt b xs))
 
 abbrev pub has : ℕ → List ℕ → Bool
-has b xs = ltb (place b xs) (length xs)
+has b xs = ltb (firstAt b xs) (length xs)
 
 -- the bytes up to the first b: all of them where there is none
 abbrev pub upTo : ℕ → List ℕ → List ℕ
-upTo b xs = take (place b xs) xs
+upTo b xs = take (firstAt b xs) xs
 
 -- the bytes past the first b: none where there is none
 abbrev pub past : ℕ → List ℕ → List ℕ
-past b xs = drop (place b xs + 1) xs
+past b xs = drop (firstAt b xs + 1) xs

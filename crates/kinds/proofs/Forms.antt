@@ -2,15 +2,24 @@
 use mathlib.Core.Path.{_≡_, refl, sym, ap, _∙_}
 use mathlib.Core.Bool.{true, false}
 use mathlib.Core.List.{List, [], _∷_}
-use Prim.Native.Nat.{ℕ, _+_, _-_, _≤_, _<_}
+use Prim.Native.Nat.{ℕ, zero, suc, _+_, _-_, _≤_, _<_}
 use native.Mathlib.Omega.{arith}
 use lib.Dec.{ltb}
 use lib.ListN.{length, getD, take, drop}
 use borrow.Author.Tests.{lt-ltb, le-ltb}
-use Rattle.figures.specs.Parts.{place, has, upTo, past}
+use Rattle.figures.specs.Parts.{firstAt, has, upTo, past}
 use Rattle.figures.proofs.Cutting.{place-within, to-end}
 use Rattle.kinds.specs.Plain.{sumsOf, closingOf}
-use Rattle.kinds.specs.declared.Parsed.the-variants.{Syntax}
+use Rattle.kinds.specs.Fields.{parsedNumber, endsOr}
+use Rattle.kinds.specs.declared.Command.{Command}
+use Rattle.kinds.specs.declared.Parsed.the-variants.{Read, Syntax}
+
+-- what ends a command with a number is told with that number
+pub ends-say : (c : Command) (number : ℕ) → number ≤ 2 → parsedNumber (endsOr number (Read c)) ≡ number
+ends-say c zero h = refl
+ends-say c (suc zero) h = refl
+ends-say c (suc (suc zero)) h = refl
+ends-say c (suc (suc (suc n))) h = absurd (omega arith)
 
 -- a list of one byte
 pub one : (s : List ℕ) → length s ≡ 1 → s ≡ getD s 0 0 ∷ []
@@ -29,7 +38,7 @@ closing-long (x ∷ []) f = absurd (f refl)
 closing-long (x ∷ y ∷ s) f = refl
 
 -- the first b found, as the code finds it
-module _ (b : ℕ) (s : List ℕ) (at : ℕ) (e : at ≡ place b s) where
+module _ (b : ℕ) (s : List ℕ) (at : ℕ) (e : at ≡ firstAt b s) where
   pub found : at < length s → has b s ≡ true
   found h = ap (λ n. ltb n (length s)) (sym e) ∙ lt-ltb at (length s) h
 

@@ -8,7 +8,7 @@ use Rattle.wire.specs.Bytes.{within}
 use Rattle.figures.specs.Parts.{has, upTo, past}
 use Rattle.figures.specs.Numbers.{fieldOf}
 use Rattle.lines.specs.Texts.{isText}
-use Rattle.kinds.specs.Fields.{given, comma}
+use Rattle.kinds.specs.Fields.{fieldThen, comma}
 use Rattle.kinds.specs.declared.Command.{Command}
 use Rattle.kinds.specs.declared.Command.the-variants.{PrintText, Open, Subtotal, Sums, Closing}
 use Rattle.kinds.specs.declared.Parsed.{Parsed}
@@ -25,9 +25,9 @@ textOf s = cond (isText s) (Read PrintText) Syntax
 -- 48: "`Op,Pwd,Till`; Op one digit 1 to 8, Pwd 4 to 6 digits, Till 1 to 5 digits"
 abbrev pub openWith : List ℕ → List ℕ → List ℕ → Parsed
 openWith op pwd till =
-    given (fieldOf 1 op) (λ o.
-    given (fieldOf 6 pwd) (λ p.
-    given (fieldOf 5 till) (λ t.
+    fieldThen (fieldOf 1 op) (λ o.
+    fieldThen (fieldOf 6 pwd) (λ p.
+    fieldThen (fieldOf 5 till) (λ t.
     cond (within 1 8 o && leb 4 (length pwd)) (Read (Open o (record { digits = length pwd; value = p }) t)) Syntax)))
 
 abbrev pub openOf : List ℕ → Parsed

@@ -16,12 +16,6 @@ pub enum Adjust {
     AmountLess(u64),
 }
 
-// The same, read from the data, or syntax.
-pub enum Adjusted {
-    By(Adjust),
-    NotOne,
-}
-
 // A line of a receipt: price in stotinki, quantity in thousandths, the group from 0.
 pub struct Sale {
     pub group: u64,
@@ -56,7 +50,7 @@ pub enum Service {
     Out(u64),
 }
 
-// The fourteen kinds. The texts of 42, 49 and 53 stay in the data: `lines::first_line` and `second_line` hand them out.
+// The fourteen kinds. The texts of 42, 49 and 53 stay in the data: `first_text` and `second_text` of `command` hand them out.
 pub enum Command {
     OpenText,
     CloseText,

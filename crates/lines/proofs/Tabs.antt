@@ -10,8 +10,8 @@ use lib.Seq.{length-take-le, take-take}
 use borrow.Author.Tests.{le-leb, lt-leb, lt-ltb, le-ltb, ltb-true}
 use Rattle.wire.specs.Bytes.{every}
 use Rattle.wire.proofs.Suits.{both}
-use Rattle.figures.specs.Parts.{place, has, upTo, past}
-use Rattle.lines.specs.Texts.{tab, lineFeed, isText, areTexts, beginsWithTexts, restOf, firstLine, secondLine}
+use Rattle.figures.specs.Parts.{firstAt, has, upTo, past}
+use Rattle.lines.specs.Texts.{tab, lineFeed, isText, areTexts, beginsWithTexts, restOf, onlyLine, firstLine, secondLine}
 use Rattle.figures.proofs.Cutting.{place-within, drop-take}
 use Rattle.lines.specs.declared.Found.{Found}
 use Rattle.lines.specs.declared.Found.the-variants.{At, NotThere}
@@ -22,11 +22,17 @@ text-long s h = rw (lt-leb (length s) 42 h)
 pub text-short : (s : List ℕ) → length s ≤ 42 → isText s ≡ every (leb 0x20) s
 text-short s h = rw (le-leb (length s) 42 h)
 
+pub only-is : (s : List ℕ) → isText s ≡ true → s ≡ onlyLine s
+only-is s e = sym (ap (λ t. cond t s []) e)
+
+pub only-none : (s : List ℕ) → isText s ≡ false → [] ≡ onlyLine s
+only-none s e = sym (ap (λ t. cond t s []) e)
+
 -- what stands before the Tab, cut at any place
 abbrev textsAt : List ℕ → ℕ → Bool
 textsAt s at = isText (take at s) && isText (drop (at + 1) s)
 
-module _ (s : List ℕ) (at : ℕ) (found : at ≡ place lineFeed s) where
+module _ (s : List ℕ) (at : ℕ) (found : at ≡ firstAt lineFeed s) where
   pub first-not : isText (take at s) ≡ false → false ≡ areTexts s
   first-not e =
       let same : false ≡ textsAt s at = rw e in
@@ -47,7 +53,7 @@ module _ (s : List ℕ) (at : ℕ) (found : at ≡ place lineFeed s) where
 abbrev restAt : List ℕ → ℕ → Found
 restAt s at = cond (ltb at (length s) && areTexts (take at s)) (At (at + 1)) NotThere
 
-module _ (s : List ℕ) (at : ℕ) (found : at ≡ place tab s) where
+module _ (s : List ℕ) (at : ℕ) (found : at ≡ firstAt tab s) where
   pub no-tab : at ≡ length s → NotThere ≡ restOf s
   no-tab all =
       let same : NotThere ≡ restAt s at = rw (le-ltb at (length s) (omega arith)) in
@@ -69,7 +75,7 @@ module _ (s : List ℕ) where
   pub not-begun : restOf s ≡ NotThere → beginsWithTexts s ≡ false
   not-begun = go (beginsWithTexts s) refl
     where
-      go : (b : Bool) → beginsWithTexts s ≡ b → cond b (At (place tab s + 1)) NotThere ≡ NotThere → beginsWithTexts s ≡ false
+      go : (b : Bool) → beginsWithTexts s ≡ b → cond b (At (firstAt tab s + 1)) NotThere ≡ NotThere → beginsWithTexts s ≡ false
       go true e h = let z : _≡_ {A = ℕ} 0 1 = cc in absurd (omega arith)
       go false e h = e
 
@@ -79,15 +85,15 @@ module _ (s : List ℕ) where
   pub second-none : restOf s ≡ NotThere → [] ≡ secondLine s
   second-none h = rw (not-begun h)
 
-  pub begun : (next : ℕ) → restOf s ≡ At next → (beginsWithTexts s ≡ true) × (next ≡ place tab s + 1)
+  pub begun : (next : ℕ) → restOf s ≡ At next → (beginsWithTexts s ≡ true) × (next ≡ firstAt tab s + 1)
   begun next = go (beginsWithTexts s) refl
     where
-      go : (b : Bool) → beginsWithTexts s ≡ b → cond b (At (place tab s + 1)) NotThere ≡ At next → (beginsWithTexts s ≡ true) × (next ≡ place tab s + 1)
+      go : (b : Bool) → beginsWithTexts s ≡ b → cond b (At (firstAt tab s + 1)) NotThere ≡ At next → (beginsWithTexts s ≡ true) × (next ≡ firstAt tab s + 1)
       go true e h = (e, cc)
       go false e h = let z : _≡_ {A = ℕ} 0 1 = cc in absurd (omega arith)
 
 module _ (s : List ℕ) (next : ℕ) (rest : restOf s ≡ At next) where
-  tab-at : next ≡ place tab s + 1
+  tab-at : next ≡ firstAt tab s + 1
   tab-at = begun s next rest .1
 
   pub rest-starts : 1 ≤ next
@@ -95,7 +101,7 @@ module _ (s : List ℕ) (next : ℕ) (rest : restOf s ≡ At next) where
 
   pub rest-within : next ≤ length s
   rest-within =
-      let inside : place tab s < length s = ltb-true (place tab s) (length s) (both (has tab s) (areTexts (upTo tab s)) (begun s next rest .0) .0) in
+      let inside : firstAt tab s < length s = ltb-true (firstAt tab s) (length s) (both (has tab s) (areTexts (upTo tab s)) (begun s next rest .0) .0) in
       omega (arith, tab-at)
 
   pub rest-past : drop next s ≡ past tab s
@@ -105,10 +111,10 @@ module _ (s : List ℕ) (next : ℕ) (rest : restOf s ≡ At next) where
   tab-length = sym (length-take-le (next - 1) s (omega (arith, rest-within)))
 
   tab-cut : take (next - 1) s ≡ upTo tab s
-  tab-cut = let same : next - 1 ≡ place tab s = omega (arith, tab-at) in ap (λ k. take k s) same
+  tab-cut = let same : next - 1 ≡ firstAt tab s = omega (arith, tab-at) in ap (λ k. take k s) same
 
   -- a line feed before the Tab
-  module _ (at : ℕ) (found : at ≡ place lineFeed (take (next - 1) s)) where
+  module _ (at : ℕ) (found : at ≡ firstAt lineFeed (take (next - 1) s)) where
     pub feed-within : at ≤ next - 1
     feed-within = omega (arith, place-within lineFeed (take (next - 1) s), tab-length)
 

@@ -5,7 +5,7 @@ use mathlib.Core.List.{List, []}
 use lib.Dec.{leb}
 use lib.ListN.{length}
 use Rattle.wire.specs.Bytes.{every}
-use Rattle.figures.specs.Parts.{place, has, upTo, past}
+use Rattle.figures.specs.Parts.{firstAt, has, upTo, past}
 use Rattle.lines.specs.declared.Found.{Found}
 use Rattle.lines.specs.declared.Found.the-variants.{At, NotThere}
 
@@ -27,11 +27,23 @@ areTexts s = isText (upTo lineFeed s) && isText (past lineFeed s)
 abbrev pub beginsWithTexts : List ℕ → Bool
 beginsWithTexts s = has tab s && areTexts (upTo tab s)
 
--- where the rest begins. "Data not of the form shown is 1": NotThere is reply number 1.
-abbrev pub restOf : List ℕ → Found
-restOf s = cond (beginsWithTexts s) (At (place tab s + 1)) NotThere
+-- document 01's reply number, and the value: where the rest begins. "Data not of the form shown is 1"
+abbrev pub foundNumber : Found → ℕ
+foundNumber (At start) = 0
+foundNumber NotThere = 1
 
--- "The line of text handed on is the part of the frame's own bytes": L1 and L2, each of no bytes where it is left out
+abbrev pub foundStart : Found → ℕ
+foundStart (At start) = start
+foundStart NotThere = 0
+
+abbrev pub restOf : List ℕ → Found
+restOf s = cond (beginsWithTexts s) (At (firstAt tab s + 1)) NotThere
+
+-- "The line of text handed on is the part of the frame's own bytes": 42's, L1 and L2, each of no bytes where it is left out or the data
+-- is not of the form
+abbrev pub onlyLine : List ℕ → List ℕ
+onlyLine s = cond (isText s) s []
+
 abbrev pub firstLine : List ℕ → List ℕ
 firstLine s = cond (beginsWithTexts s) (upTo lineFeed (upTo tab s)) []
 

@@ -1,7 +1,7 @@
-// The texts before a Tab: L1 and L2 are handed on as parts of the lent data.
+// The texts before a Tab, and the text of 42: each is handed on as a part of the lent data.
 use figures::find;
 ghost use mathlib.Core.Path.{_≡_};
-ghost use Rattle.lines.specs.Texts.{isText, areTexts, restOf, firstLine, secondLine};
+ghost use Rattle.lines.specs.Texts.{isText, areTexts, restOf, onlyLine, firstLine, secondLine};
 
 // Where the rest behind the texts and their Tab begins, or syntax: reply number 1.
 pub enum Found {
@@ -53,6 +53,16 @@ pub fn behind_tab(s: &[u8]) -> Found
         return Found::NotThere;
     }
     Found::At(at + 1)
+}
+
+// 42's: all of it.
+pub fn only_line(s: &[u8]) -> &[u8]
+    ensures { λ r. ⌜ now r ≡ onlyLine (now (s .entry)) ⌝ }
+{
+    if is_text(s) {
+        return s;
+    }
+    &s[..0]
 }
 
 // L1: up to the line feed, or up to the Tab.

@@ -2,7 +2,7 @@
 use mathlib.Core.Path.{_≡_, refl, sym, ap, _∙_, subst}
 use mathlib.Core.Bool.{Bool, true, false, cond}
 use mathlib.Core.List.{List, [], _∷_, _++_}
-use Prim.Native.Nat.{ℕ, suc, _+_, _≤_, _<_}
+use Prim.Native.Nat.{ℕ, suc, _+_, _*_, _≤_, _<_}
 use native.Mathlib.Nat.{add-assoc, add-zero, zero-add}
 use native.Mathlib.Numerals.{add-one}
 use native.Mathlib.Omega.{arith}
@@ -12,7 +12,7 @@ use lib.Seq.{sets-eq, length-sets, take-at, drop-cons}
 use Rattle.reader.specs.Private.{brokenOf, wholeOf}
 use Rattle.reader.specs.Reading.{Place, outside, inside, Read, Event, nothing, brokenFrame, heard, Standing, broken, beginning, whole, standing, goesOn, grown, message, startsAnew, read, readOther, Run, run}
 use Rattle.wire.specs.Frame.{Message}
-use Rattle.reader.specs.Fields.{placeOf, readerOf, keptIn, heardOf, takenOf, toldOf, count, brokenIn, wholeIn}
+use Rattle.reader.specs.Fields.{placeOf, readerOf, keptIn, heardNumber, heardValues, heardOf, takenOf, toldOf, count, brokenIn, wholeIn}
 use Rattle.wire.specs.declared.Kind.{Kind}
 use Rattle.reader.specs.declared.Heard.{Heard}
 use Rattle.reader.specs.declared.Heard.the-variants.{Nothing, Broken, Whole}
@@ -59,6 +59,12 @@ whole-heard : (e : Event) → wholeOf (heardOf e) ≡ wholeIn e
 whole-heard nothing = refl
 whole-heard brokenFrame = refl
 whole-heard (heard m) = refl
+
+-- 5 for a broken frame and 0 for any other byte; three values for a whole frame and none for any other byte
+pub heard-says : (e : Event) → (heardNumber (heardOf e) ≡ 5 * brokenIn e) × (length (heardValues (heardOf e)) ≡ 3 * wholeIn e)
+heard-says nothing = (refl, refl)
+heard-says brokenFrame = (refl, refl)
+heard-says (heard m) = (refl, refl)
 
 pub few-broken : (h : Heard) → brokenOf h ≤ 1
 few-broken Nothing = omega arith

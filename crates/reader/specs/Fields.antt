@@ -2,6 +2,7 @@
 use Prim.Native.Nat.{ℕ, _+_}
 use mathlib.Core.Bool.{true, false, cond}
 use mathlib.Core.List.{List, [], _∷_}
+use lib.Dec.{eqb}
 use lib.ListN.{length, take}
 use lib.Seq.{sets}
 use Rattle.reader.specs.Reading.{Place, outside, inside, Event, nothing, brokenFrame, heard, Read, Run}
@@ -25,7 +26,18 @@ abbrev pub keptIn : List ℕ → Place → List ℕ
 keptIn array outside = array
 keptIn array (inside sum bytes) = sets array 0 bytes
 
--- number 0 (byte taken), 5 (broken frame), and a whole frame with its SEQ, its CMD and the number of its data bytes
+-- document 01's reply number of what a byte brought: "0: byte taken", "5: broken frame"; a whole frame's own number is its command's to say
+abbrev pub heardNumber : Heard → ℕ
+heardNumber Nothing = 0
+heardNumber Broken = 5
+heardNumber (Whole seq code count) = 0
+
+-- and the values: a whole frame has its SEQ, its CMD and the number of its data bytes
+abbrev pub heardValues : Heard → List ℕ
+heardValues Nothing = []
+heardValues Broken = []
+heardValues (Whole seq code count) = seq ∷ code ∷ count ∷ []
+
 abbrev pub heardOf : Event → Heard
 heardOf nothing = Nothing
 heardOf brokenFrame = Broken
@@ -34,16 +46,12 @@ heardOf (heard m) = Whole (m .seq) (m .code) (length (m .content))
 abbrev pub takenOf : Read → Taken
 takenOf r = record { reader = readerOf (r .place); heard = heardOf (r .event) }
 
--- how many broken frames, and how many whole ones, stand in a list of events
+-- how many broken frames stand in a list of events: those told with 5; and how many whole ones: those told with values
 abbrev pub brokenIn : Event → ℕ
-brokenIn nothing = 0
-brokenIn brokenFrame = 1
-brokenIn (heard m) = 0
+brokenIn e = cond (eqb (heardNumber (heardOf e)) 5) 1 0
 
 abbrev pub wholeIn : Event → ℕ
-wholeIn nothing = 0
-wholeIn brokenFrame = 0
-wholeIn (heard m) = 1
+wholeIn e = cond (eqb (length (heardValues (heardOf e))) 0) 0 1
 
 abbrev pub count : (Event → ℕ) → List Event → ℕ
 count of [] = 0

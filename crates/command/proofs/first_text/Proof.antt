@@ -1,0 +1,43 @@
+use borrow.Author.Tests.{ne-eqb}
+use borrow.Author.Needs.{needs}
+use Rattle.command.proofs.first_text.Statement.{statement}
+use Rattle.command.proofs.first_text.Tie as tie
+
+only-line-requires : tie.Need-only-line-requires
+only-line-requires c κs = search needs
+
+first-line-requires : tie.Need-first-line-requires
+first-line-requires c κs = search needs
+
+first-line-requires-2 : tie.Need-first-line-requires-2
+first-line-requires-2 c κs = search needs
+
+slice-aggregate-result : tie.Need-slice-aggregate-result
+slice-aggregate-result c = search needs
+
+returns : tie.Need-returns
+returns c = rw (c .before .match .keys1) (c .only-line .ensures)
+
+returns-2 : tie.Need-returns-2
+returns-2 c = rw (c .before .match .keys2) (c .first-line .ensures)
+
+returns-3 : tie.Need-returns-3
+returns-3 c = rw (c .before .match .keys3) (c .first-line2 .ensures)
+
+returns-4 : tie.Need-returns-4
+returns-4 c =
+    let n = c .before .before .before .args .code in
+    rw (ne-eqb n 42 (c .before .match .rest .0 .0 .1), ne-eqb n 49 (c .before .match .rest .0 .1), ne-eqb n 53 (c .before .match .rest .1))
+
+pub first-text-spec : {M : Type 1} → statement M
+first-text-spec =
+    tie.close
+    (tie.spec
+    only-line-requires
+    first-line-requires
+    first-line-requires-2
+    slice-aggregate-result
+    returns
+    returns-2
+    returns-3
+    returns-4)
