@@ -15,26 +15,10 @@ use Rattle.receipt.specs.declared.Sold.{Sold}
 use Rattle.books.specs.Groups.{at}
 use Rattle.books.specs.Rates.{rateOf, isEnabled}
 use Rattle.books.specs.declared.Books.{Books}
+use Rattle.deeds.specs.Holds.{holds}
 use Rattle.deeds.specs.Reasons.{noneOpen, owed, tendered, registerOf}
 use Rattle.deeds.specs.Effects.{effect, shows}
 use Rattle.deeds.specs.Deeds.{done, judged, soldAs, paidAs, cancelledAs, byReasons, deedOf}
-
--- a command as it can be read: of a sale, numbers of its fields
-abbrev pub Fitting : Command → Type 0
-Fitting OpenText = Unit {0}
-Fitting CloseText = Unit {0}
-Fitting PrintText = Unit {0}
-Fitting (Open op p till) = Unit {0}
-Fitting (Sell s) = fits s ≡ true
-Fitting (Subtotal print show) = Unit {0}
-Fitting (Pay p) = Unit {0}
-Fitting Close = Unit {0}
-Fitting Cancel = Unit {0}
-Fitting (Sums taxes) = Unit {0}
-Fitting (Closing clears) = Unit {0}
-Fitting (Drawer s) = Unit {0}
-Fitting Status = Unit {0}
-Fitting Rates = Unit {0}
 
 module _ (b : Books) where
   selling : (s : Sale) → fits s ≡ true → deedOf b (Sell s) ≡ byReasons b (Sell s)
@@ -86,7 +70,7 @@ module _ (b : Books) where
       go false false = refl
 
   -- the theorem
-  pub judged-by-its-reasons : (c : Command) → Fitting c → deedOf b c ≡ byReasons b c
+  pub judged-by-its-reasons : (c : Command) → holds c ≡ true → deedOf b c ≡ byReasons b c
   judged-by-its-reasons OpenText f = refl
   judged-by-its-reasons CloseText f = refl
   judged-by-its-reasons PrintText f = refl

@@ -22,6 +22,7 @@ use Rattle.books.specs.declared.Opened.the-variants as opened
 use Rattle.books.specs.declared.Shown.{Shown}
 use Rattle.books.specs.declared.Shown.the-variants as shown
 use Rattle.deeds.specs.declared.Deed.{Deed}
+use Rattle.deeds.specs.Holds.{holds}
 use Rattle.deeds.specs.Reasons.{noOpening, noneOpen, three, four}
 use Rattle.deeds.specs.Effects.{newReceipt, effect, shows}
 pub use Rattle.deeds.specs.Reasons.{full, isRight, registerOf}
@@ -121,5 +122,6 @@ deedOf b (Drawer s) = served b s
 deedOf b Status = byReasons b Status
 deedOf b Rates = byReasons b Rates
 
+-- "Order: .. 1, 3, 4"
 abbrev pub carriedOut : Books → Command → Deed
-carriedOut b c = kept b (deedOf b c)
+carriedOut b c = cond (holds c) (kept b (deedOf b c)) (refusedWith 1 b)

@@ -1,3 +1,4 @@
+pub mod Holds
 pub mod Reasons
 pub mod Effects
 pub mod Deeds

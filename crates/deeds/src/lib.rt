@@ -7,10 +7,13 @@ use books::Books;
 use books::Shown;
 use books::sound;
 use kinds::Command;
+use kinds::Service;
+use kinds::Tender;
 ghost use mathlib.Core.Path.{_≡_};
 ghost use mathlib.Core.Bool.{true, _||_};
 ghost use Rattle.books.specs.Sound.{sound};
 ghost use Rattle.deeds.specs.Deeds.{refusedWith, done, deedOf, carriedOut};
+ghost use Rattle.deeds.specs.Holds.{tenderHolds, serviceHolds, holds};
 
 // The books afterwards, with the reply number and what the answer shows.
 pub struct Deed {
@@ -22,10 +25,66 @@ pub struct Deed {
 pub fn carry_out(books: Books, command: Command) -> Deed
     ensures { λ r. ⌜ r ≡ carriedOut books command ⌝ }
 {
+    if !can_hold(command) {
+        return refuse(1, books);
+    }
     if !sound::is_sound(books) {
         return refuse(4, books);
     }
     act(books, command)
+}
+
+// Numbers of the command's own fields: no data is read as any other.
+fn can_hold(command: Command) -> bool
+    ensures { λ r. ⌜ r ≡ holds command ⌝ }
+{
+    match command {
+        Command::OpenText => true,
+        Command::CloseText => true,
+        Command::PrintText => true,
+        Command::Open {
+            op: _,
+            password: _,
+            till: _,
+        } => true,
+        Command::Sell(s) => receipt::fits_sale(s),
+        Command::Subtotal { print: _, show: _ } => true,
+        Command::Pay(p) => {
+            let tender = p.tender;
+            holds_tender(tender)
+        }
+        Command::Close => true,
+        Command::Cancel => true,
+        Command::Sums { taxes: _ } => true,
+        Command::Closing { clears: _ } => true,
+        Command::Drawer(s) => holds_service(s),
+        Command::Status => true,
+        Command::Rates => true,
+    }
+}
+
+fn holds_tender(tender: Tender) -> bool
+    ensures { λ r. ⌜ r ≡ tenderHolds tender ⌝ }
+{
+    match tender {
+        Tender::Rest => true,
+        Tender::Amount(n) => {
+            if n <= 0 {
+                return false;
+            }
+            n < 10000000000
+        }
+    }
+}
+
+fn holds_service(service: Service) -> bool
+    ensures { λ r. ⌜ r ≡ serviceHolds service ⌝ }
+{
+    match service {
+        Service::Report => true,
+        Service::In(n) => n < 10000000000,
+        Service::Out(n) => n < 10000000000,
+    }
 }
 
 fn act(books: Books, command: Command) -> Deed

@@ -2,6 +2,7 @@
 use Prim.Native.Nat.{ℕ}
 use Rattle.wire.specs.Frame.{Message, answerOf, frame}
 use Rattle.wire.specs.declared.Kind.the-variants.{Answer}
+use Rattle.kinds.specs.Fields.{parsedNumber}
 use Rattle.kinds.specs.declared.Parsed.{Parsed}
 use Rattle.kinds.specs.declared.Parsed.the-variants.{Read, Syntax, Unknown}
 use Rattle.command.specs.Commands.{parsedOf}
@@ -15,8 +16,8 @@ use Rattle.line.specs.Turns.{Carried}
 -- "Order: .. 2, 1, 3, 4": unknown command and syntax are told before the books are asked
 abbrev pub deedFor : Books → Parsed → Deed
 deedFor b (Read c) = carriedOut b c
-deedFor b Syntax = refusedWith 1 b
-deedFor b Unknown = refusedWith 2 b
+deedFor b Syntax = refusedWith (parsedNumber Syntax) b
+deedFor b Unknown = refusedWith (parsedNumber Unknown) b
 
 -- the answer to a command, with its SEQ and CMD: the data of a command done, or none, and the status after it
 abbrev pub answerTo : Books → ℕ → ℕ → Deed → Message

@@ -18,9 +18,10 @@ use Rattle.books.specs.Sound.{sound}
 use Rattle.books.specs.declared.Books.{Books}
 use Rattle.books.specs.declared.Opened.{Opened}
 use Rattle.books.specs.declared.Opened.the-variants.{Nothing, Fiscal, Text}
+use Rattle.deeds.specs.Holds.{holds}
 use Rattle.deeds.specs.Deeds.{raisedBy, deedOf, carriedOut}
 use Rattle.deeds.specs.declared.Deed.{Deed}
-use Rattle.deeds.proofs.Judging.{kept-done}
+use Rattle.deeds.proofs.Judging.{kept-done, held-done}
 use Rattle.history.specs.Reached.{Reached, Receipted}
 use Rattle.history.proofs.Lists.{sum-eight-set}
 use Rattle.history.proofs.Soundness.{fresh-is-sound, step-sound}
@@ -132,5 +133,5 @@ pub reached-stays : (b : Books) (c : Command) → Reached b → Reached (carried
 reached-stays b c h = reaching h (taken b c)
 
 -- such books are never refused for not being sound
-pub every-command-judged : (b : Books) (c : Command) → Reached b → carriedOut b c ≡ deedOf b c
-every-command-judged b c h = sym (kept-done b (deedOf b c) (h .fits))
+pub every-command-judged : (b : Books) (c : Command) → Reached b → holds c ≡ true → carriedOut b c ≡ deedOf b c
+every-command-judged b c h e = sym (kept-done b (deedOf b c) (h .fits) ∙ held-done b c e)

@@ -24,6 +24,7 @@ use Rattle.books.specs.Sound.{inTwelve, withReceiptOf, sound}
 use Rattle.books.specs.declared.Books.{Books}
 use Rattle.books.specs.declared.Opened.the-variants as opened
 use Rattle.books.specs.declared.Shown.the-variants as shown
+use Rattle.deeds.specs.Holds.{holds}
 use Rattle.deeds.specs.Deeds.{refusedWith, done, judged, full, isRight, soldAs, registerOf, raisedBy, paidAs, cancelledAs, cleared, deedOf, carriedOut}
 use Rattle.deeds.specs.declared.Deed.{Deed}
 
@@ -214,9 +215,10 @@ module _ (b : Books) where
   stepping Status = status
   stepping Rates = rates
 
-  keeping : (c : Command) (fit : Bool) → Step b c (cond fit (deedOf b c) (refusedWith 4 b))
-  keeping c true = stepping c
-  keeping c false = refused 3 (omega arith)
+  keeping : (c : Command) (held fit : Bool) → Step b c (cond held (cond fit (deedOf b c) (refusedWith 4 b)) (refusedWith 1 b))
+  keeping c true true = stepping c
+  keeping c true false = refused 3 (omega arith)
+  keeping c false fit = refused 0 (omega arith)
 
   pub taken : (c : Command) → Step b c (carriedOut b c)
-  taken c = keeping c (sound b)
+  taken c = keeping c (holds c) (sound b)

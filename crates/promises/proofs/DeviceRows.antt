@@ -26,7 +26,7 @@ use Rattle.device.specs.Carrying.{deedFor, carriedAs, carry}
 use Rattle.device.specs.Device.{lentTurn}
 use Rattle.promises.specs.AtDevice.{FromDevice, reads, NewFrame, NewCommand, ByDevice, row-0-taken, row-0-done, row-1, row-2, row-3, row-4, row-5, row-6, row-7}
 use Rattle.promises.specs.Ends.{ofDevice}
-use Rattle.promises.proofs.Verdicts.{Right, syntax, no-kind, is-read, parsed-right, right-fitting}
+use Rattle.promises.proofs.Verdicts.{Right, syntax, no-kind, is-read, parsed-right}
 
 -- what a whole frame asks of the books, by the reasons
 abbrev pub tableDeed : Books → Parsed → Deed
@@ -133,7 +133,7 @@ carried-by : (b : Books) → sound b ≡ true → (p : Parsed) → Right p → d
 carried-by b e Syntax syntax = refl
 carried-by b e Unknown no-kind = refl
 carried-by b e (Read c) (is-read r) =
-    ap (λ z. cond z (deedOf b c) (refusedWith 4 b)) e ∙ judged-by-its-reasons b c (right-fitting c r)
+    ap (λ z. cond z (kept b (deedOf b c)) (refusedWith 1 b)) r ∙ ap (λ z. cond z (deedOf b c) (refusedWith 4 b)) e ∙ judged-by-its-reasons b c r
 
 same-carry : (b : Books) → sound b ≡ true → (m : Message) → carry b m ≡ tableCarry b m
 same-carry b e m = ap (carriedAs b (m .seq) (m .code)) (carried-by b e (parsedOf (m .code) (m .content)) (parsed-right (m .code) (m .content)))
