@@ -4,7 +4,7 @@ use mathlib.Core.Bool.{Bool, true, false, cond, not, _&&_, _||_, false≢true}
 use Prim.Native.Nat.{ℕ, suc, _+_, _-_, _≤_, _<_, min}
 use native.Mathlib.Omega.{arith}
 use lib.Dec.{leb, ltb}
-use borrow.Author.Tests.{ltb-true, ltb-false, leb-true, leb-false, not-false}
+use borrow.Author.Tests.{ltb-false, leb-true, leb-false, not-false}
 use Rattle.wire.proofs.Suits.{both}
 use Rattle.kinds.specs.declared.Command.{Command}
 use Rattle.kinds.specs.declared.Command.the-variants.{OpenText, CloseText, PrintText, Open, Sell, Subtotal, Pay, Close, Cancel, Sums, Closing, Drawer, Status, Rates}
@@ -13,7 +13,8 @@ use Rattle.kinds.specs.declared.Payment.{Payment}
 use Rattle.kinds.specs.declared.Sale.{Sale}
 use Rattle.kinds.specs.declared.Service.{Service}
 use Rattle.kinds.specs.declared.Service.the-variants.{Report, In, Out}
-use Rattle.receipt.specs.Lines.{productOf, tooMuchOff, finishedOf, adjustFits, fits}
+use Rattle.receipt.proofs.Adjusting.{fits-parts}
+use Rattle.receipt.specs.Lines.{productOf, tooMuchOff, finishedOf, fits}
 use Rattle.receipt.specs.Receipts.{emptyReceipt, notPermitted, overflows, groupAfter, totalAfter, withLine, soldOf, givenOf, isCash, notPaidOf, paidOf, paymentOf, cancelOf}
 use Rattle.receipt.specs.declared.Paid.{Paid}
 use Rattle.receipt.specs.declared.Sold.{Sold}
@@ -115,13 +116,10 @@ module _ (b : Books) where
         let n1 = none-of (r .tried) (leb 512 (r .lines)) (n2 .0) in
         let v3 = none-of (ltb 99999999 (productOf s) || ltb 99999999 (finishedOf (productOf s) (s .adjust)) || ltb 9999999999 (totalAfter r s)) (ltb 999999999999 (day + groupAfter r s)) v in
         let v2 = none-of (ltb 99999999 (productOf s) || ltb 99999999 (finishedOf (productOf s) (s .adjust))) (ltb 9999999999 (totalAfter r s)) (v3 .0) in
-        let f3 = both (ltb (s .group) 8 && ltb (s .price) 10000000000 && ltb (s .quantity) 100000000000) (adjustFits (s .minus) (s .adjust)) f in
-        let f2 = both (ltb (s .group) 8 && ltb (s .price) 10000000000) (ltb (s .quantity) 100000000000) (f3 .0) in
-        let f1 = both (ltb (s .group) 8) (ltb (s .price) 10000000000) (f2 .0) in
         record {
           isOpen = o;
           untried = n1 .0;
-          group = ltb-true (s .group) 8 (f1 .0);
+          group = fits-parts s f .0;
           plain = λ m. ltb-false (at (r .groups) (s .group)) (productOf s) (not-both (s .minus) (ltb (at (r .groups) (s .group)) (productOf s)) (n4 .1) m);
           total = ltb-false 9999999999 (totalAfter r s) (v2 .1);
           sum = ltb-false 999999999999 (day + groupAfter r s) (v3 .1);
