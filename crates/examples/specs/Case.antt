@@ -21,7 +21,7 @@ pub record Exchange : Type 0 where
   pub hears : List ℕ
   pub gives : List ℕ
 
-pub record Mark : Type 0 where
+pub record Listed : Type 0 where
   pub seq : ℕ
   pub code : ℕ
 
@@ -30,7 +30,7 @@ pub data Case : Type 0 where
   -- this command is these bytes
   built : (number : ℕ) (command : Message) (sent : List ℕ) → Case
   -- a fresh device hears these in turn, and these are the commands that it carries out
-  talk : (number : ℕ) (exchanges : List Exchange) (done : List Mark) → Case
+  talk : (number : ℕ) (exchanges : List Exchange) (done : List Listed) → Case
 
 -- SEQ, CMD and data of a command; data and status of its answer
 abbrev pub asks : ℕ → ℕ → string.String → string.String → List ℕ → Exchange
@@ -41,7 +41,7 @@ asks seq code content answer status =
 abbrev pub endsIn : ℕ → List ℕ → List ℕ
 endsIn b sent = set sent (length sent - 1) b
 
-abbrev pub marked : ℕ → ℕ → Mark
+abbrev pub marked : ℕ → ℕ → Listed
 marked seq code = record { seq = seq; code = code }
 
 -- the same device, exchange by exchange: what it hears, with what it gives back
@@ -55,10 +55,10 @@ abbrev pub heardInAll : List Exchange → List ℕ
 heardInAll [] = []
 heardInAll (e ∷ es) = e .hears ++ heardInAll es
 
-abbrev pub carriedOut : List Exchange → List Mark
-carriedOut es = map (λ m. marked (m .seq) (m .code)) (session carry (switchedOn freshBooks) (heardInAll es) .carried)
+abbrev pub allMarked : List Exchange → List Listed
+allMarked es = map (λ m. marked (m .seq) (m .code)) (session carry (switchedOn freshBooks) (heardInAll es) .carried)
 
 -- a case worked out: what it says is sent, given back and carried out, by the definitions
 abbrev pub worked : Case → Case
 worked (built number command sent) = built number command (frame Command command)
-worked (talk number exchanges done) = talk number (exchanged (switchedOn freshBooks) exchanges) (carriedOut exchanges)
+worked (talk number exchanges done) = talk number (exchanged (switchedOn freshBooks) exchanges) (allMarked exchanges)

@@ -18,7 +18,7 @@ use Rattle.deeds.specs.declared.Deed.{Deed}
 use Rattle.history.specs.Agrees.{Agrees, toldBooks}
 use Rattle.history.specs.Digits.{priced}
 use Rattle.history.specs.Entries.{Entry, entryOf, did}
-use Rattle.history.specs.History.{receiptSum, receiptTotal, paidSum, due, daySum, closesDay, brought, by, served, inOf, outOf, once, openReceipt}
+use Rattle.history.specs.History.{receiptSum, receiptTotal, paidSum, due, daySum, closesDay, brought, by, serviceOf, inOf, outOf, once, openReceipt}
 use Rattle.history.specs.Reached.{Reached}
 use Rattle.history.proofs.Lists.{eight-at, same-eight}
 use Rattle.history.proofs.Soundness.{zeros}
@@ -51,8 +51,8 @@ tells e =
       text = did 38 e;
       ends = did 39 e || did 56 e || did 60 e;
       brought = λ m rest. brought (by m) rest e;
-      put = served inOf e;
-      taken = served outOf e;
+      put = serviceOf inOf e;
+      taken = serviceOf outOf e;
     }
 
 abbrev nothing : Tells

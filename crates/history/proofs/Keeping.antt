@@ -12,7 +12,7 @@ use Rattle.books.specs.Groups.{eight, sum}
 use Rattle.books.specs.declared.Registers.{Registers}
 use Rattle.history.specs.Agrees.{ReceiptAgrees, RegistersAgree}
 use Rattle.history.specs.Entries.{Entry, did}
-use Rattle.history.specs.History.{begins, closesDay, once, by, byAny, receiptSum, receiptTotal, added, takenOff, linesSold, saysR, paymentTried, paidInFull, brought, paidSum, due, putIn, takenOut}
+use Rattle.history.specs.History.{startsAfresh, closesDay, once, by, byAny, receiptSum, receiptTotal, added, takenOff, linesSold, saysR, paymentTried, paidInFull, brought, paidSum, due, putIn, takenOut}
 use Rattle.history.proofs.Lists.{same-eight}
 use Rattle.history.proofs.Soundness.{zeros}
 
@@ -37,7 +37,7 @@ less e f = rw (e, f)
 
 -- what an entry tells of the fiscal receipt
 pub record TellsReceipt : Type 0 where
-  pub begins : Bool
+  pub startsAfresh : Bool
   pub sold : Bool
   pub tried : Bool
   pub full : Bool
@@ -48,7 +48,7 @@ pub record TellsReceipt : Type 0 where
 abbrev pub tellsReceipt : Entry → TellsReceipt
 tellsReceipt e =
     record {
-      begins = begins e;
+      startsAfresh = startsAfresh e;
       sold = did 49 e;
       tried = did 53 e;
       full = did 53 e && saysR (e .shown);
@@ -59,7 +59,7 @@ tellsReceipt e =
 
 abbrev pub noReceipt : TellsReceipt
 noReceipt =
-    record { begins = false; sold = false; tried = false; full = false; added = λ g. 0; off = λ g. 0; brought = λ rest. 0 }
+    record { startsAfresh = false; sold = false; tried = false; full = false; added = λ g. 0; off = λ g. 0; brought = λ rest. 0 }
 
 pub since : {t : Bool} {x y d : ℕ} → t ≡ false → d ≡ 0 → x ≡ y → x ≡ cond t 0 (y + d)
 since {t} {x} {y} {d} e f h = let more : x ≡ y + d = omega arith in more ∙ sym (ap (λ z. cond z 0 (y + d)) e)
@@ -72,21 +72,21 @@ module _ (es : List Entry) (e : Entry) (r : Receipt) (i : tellsReceipt e ≡ noR
   same-group : (g : ℕ) → receiptSum g es ≡ receiptSum g (e ∷ es)
   same-group g =
       let more : receiptSum g es ≡ receiptSum g es + added g e - takenOff g e = omega (arith, part (λ t. t .added g), part (λ t. t .off g)) in
-      more ∙ sym (ap (λ z. cond z 0 (receiptSum g es + added g e - takenOff g e)) (part (λ t. t .begins)))
+      more ∙ sym (ap (λ z. cond z 0 (receiptSum g es + added g e - takenOff g e)) (part (λ t. t .startsAfresh)))
 
   same-total : receiptTotal es ≡ receiptTotal (e ∷ es)
   same-total = ap sum (same-eight (λ g. receiptSum g es) (λ g. receiptSum g (e ∷ es)) (λ g lt. same-group g))
 
-  same-flag : {x y d : Bool} → d ≡ false → x ≡ y → x ≡ cond (begins e) false (d || y)
-  same-flag {x} {y} {d} f k = k ∙ sym (ap (λ z. cond z false (d || y)) (part (λ t. t .begins)) ∙ ap (λ z. z || y) f)
+  same-flag : {x y d : Bool} → d ≡ false → x ≡ y → x ≡ cond (startsAfresh e) false (d || y)
+  same-flag {x} {y} {d} f k = k ∙ sym (ap (λ z. cond z false (d || y)) (part (λ t. t .startsAfresh)) ∙ ap (λ z. z || y) f)
 
   pub kept-receipt : ReceiptAgrees (e ∷ es) r
   kept-receipt =
-      let paid = since (part (λ t. t .begins)) (part (λ t. t .brought (due es))) (h .paid) in
+      let paid = since (part (λ t. t .startsAfresh)) (part (λ t. t .brought (due es))) (h .paid) in
       record {
         groups = λ g lt. h .groups g lt ∙ same-group g;
         total = h .total ∙ same-total;
-        lines = since (part (λ t. t .begins)) (ap once (part (λ t. t .sold))) (h .lines);
+        lines = since (part (λ t. t .startsAfresh)) (ap once (part (λ t. t .sold))) (h .lines);
         paid = paid;
         rest = less (h .total ∙ same-total) paid;
         tried = same-flag (part (λ t. t .tried)) (h .tried);
@@ -99,8 +99,8 @@ kept-registers es e r f i h =
     record { n = since f (i N) (h .n); c = since f (i C) (h .c); d = since f (i D) (h .d); b = since f (i B) (h .b) }
 
 -- 48, 56 and 60: nothing stands on it
-module _ (es : List Entry) (e : Entry) (i : begins e ≡ true) where
-  anew : {A : Type 0} (x y : A) → x ≡ cond (begins e) x y
+module _ (es : List Entry) (e : Entry) (i : startsAfresh e ≡ true) where
+  anew : {A : Type 0} (x y : A) → x ≡ cond (startsAfresh e) x y
   anew x y = sym (ap (λ z. cond z x y) i)
 
   pub new-receipt : ReceiptAgrees (e ∷ es) emptyReceipt

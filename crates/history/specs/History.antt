@@ -1,5 +1,5 @@
 -- Demand 2: each figure told from the whole history, newest entry first, and from nothing that the device remembers.
--- A refusal counts for nothing: `did`, `added`, `brought` and `served` look at commands done alone.
+-- A refusal counts for nothing: `did`, `added`, `brought` and `serviceOf` look at commands done alone.
 use Prim.Native.Nat.{ℕ, _+_, _-_}
 use mathlib.Core.Bool.{Bool, true, false, cond, not, _&&_, _||_}
 use mathlib.Core.List.{List, [], _∷_}
@@ -30,9 +30,9 @@ openReceipt [] = Nothing
 openReceipt (e ∷ es) =
     cond (did 48 e) Fiscal (cond (did 38 e) Text (cond (did 39 e || did 56 e || did 60 e) Nothing (openReceipt es)))
 
--- the fiscal receipt begins anew at 48, and 56 and 60 leave nothing of it
-abbrev pub begins : Entry → Bool
-begins e = did 48 e || did 56 e || did 60 e
+-- the fiscal receipt starts afresh at 48, and 56 and 60 leave nothing of it
+abbrev pub startsAfresh : Entry → Bool
+startsAfresh e = did 48 e || did 56 e || did 60 e
 
 -- 49: what a line adds to a group, and with `-` takes off it
 module _ (g : ℕ) where
@@ -47,7 +47,7 @@ module _ (g : ℕ) where
 
   abbrev pub receiptSum : List Entry → ℕ
   receiptSum [] = 0
-  receiptSum (e ∷ es) = cond (begins e) 0 (receiptSum es + added e - takenOff e)
+  receiptSum (e ∷ es) = cond (startsAfresh e) 0 (receiptSum es + added e - takenOff e)
 
 abbrev pub receiptTotal : List Entry → ℕ
 receiptTotal es = sum (eight (λ g. receiptSum g es))
@@ -55,7 +55,7 @@ receiptTotal es = sum (eight (λ g. receiptSum g es))
 -- how many lines stand on the receipt, "minus ones counted"
 abbrev pub linesSold : List Entry → ℕ
 linesSold [] = 0
-linesSold (e ∷ es) = cond (begins e) 0 (linesSold es + once (did 49 e))
+linesSold (e ∷ es) = cond (startsAfresh e) 0 (linesSold es + once (did 49 e))
 
 -- 53: "`D` and the rest, or `R` and the change", read from the answer's data
 abbrev pub saysR : List ℕ → Bool
@@ -68,12 +68,12 @@ changeOf shown = cond (saysR shown) (number 0 (drop 1 shown)) 0
 -- 49 and 60: "53 already done", "no 53 done"
 abbrev pub paymentTried : List Entry → Bool
 paymentTried [] = false
-paymentTried (e ∷ es) = cond (begins e) false (did 53 e || paymentTried es)
+paymentTried (e ∷ es) = cond (startsAfresh e) false (did 53 e || paymentTried es)
 
 -- "Only an `R` makes a receipt paid in full"
 abbrev pub paidInFull : List Entry → Bool
 paidInFull [] = false
-paidInFull (e ∷ es) = cond (begins e) false (did 53 e && saysR (e .shown) || paidInFull es)
+paidInFull (e ∷ es) = cond (startsAfresh e) false (did 53 e && saysR (e .shown) || paidInFull es)
 
 -- the modes told apart
 abbrev pub place : Mode → ℕ
@@ -99,7 +99,7 @@ brought test rest e =
 -- what was paid on the open receipt, and what is still due
 abbrev pub paidSum : List Entry → ℕ
 paidSum [] = 0
-paidSum (e ∷ es) = cond (begins e) 0 (paidSum es + brought byAny (receiptTotal es - paidSum es) e)
+paidSum (e ∷ es) = cond (startsAfresh e) 0 (paidSum es + brought byAny (receiptTotal es - paidSum es) e)
 
 abbrev pub due : List Entry → ℕ
 due es = receiptTotal es - paidSum es
@@ -115,22 +115,22 @@ outOf Report = 0
 outOf (In n) = 0
 outOf (Out n) = n
 
-abbrev pub served : (Service → ℕ) → Entry → ℕ
-served way e = cond (isDone (e .number)) (ofService 0 way (e .command)) 0
+abbrev pub serviceOf : (Service → ℕ) → Entry → ℕ
+serviceOf way e = cond (isDone (e .number)) (ofService 0 way (e .command)) 0
 
 -- "Cash equals all that was put in less all that was taken out, over the whole history."
 abbrev pub putIn : List Entry → ℕ
 putIn [] = 0
-putIn (e ∷ es) = putIn es + brought (by Cash) (due es) e + served inOf e
+putIn (e ∷ es) = putIn es + brought (by Cash) (due es) e + serviceOf inOf e
 
 abbrev pub takenOut : List Entry → ℕ
 takenOut [] = 0
-takenOut (e ∷ es) = takenOut es + served outOf e
+takenOut (e ∷ es) = takenOut es + serviceOf outOf e
 
 -- since the last closing: the service sums, a mode's register, the counters (38 and 48, and 48 alone)
 abbrev pub serviceSum : (Service → ℕ) → List Entry → ℕ
 serviceSum way [] = 0
-serviceSum way (e ∷ es) = cond (closesDay e) 0 (serviceSum way es + served way e)
+serviceSum way (e ∷ es) = cond (closesDay e) 0 (serviceSum way es + serviceOf way e)
 
 abbrev pub register : Mode → List Entry → ℕ
 register m [] = 0

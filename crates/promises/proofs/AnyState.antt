@@ -34,8 +34,8 @@ use Rattle.promises.proofs.DeviceRows.{short7, again, order, ordered}
 use Rattle.promises.proofs.TillRows.{taking}
 use Rattle.promises.proofs.Demand1.{by-the-device}
 
-held : {c : Command} → Right (Read c) → holds c ≡ true
-held (is-read r) = r
+read-holds : {c : Command} → Right (Read c) → holds c ≡ true
+read-holds (is-read r) = r
 
 abbrev Says : Bench → Comes → Outcome → Type 0
 Says s c r = ByTheTable s c r ⊎ Beyond s c r
@@ -51,7 +51,7 @@ module _ (s : Bench) (bad : sound (s .device .books) ≡ false) (buffer : List �
   by-kind m n Unknown e = inl (at-device (row-2 m n e))
   by-kind m n (Read c) e =
       subst (λ (d : Deed). Says s (atDevice buffer byte) (fromDevice (ofDevice buffer (order (s .device) next m d))))
-      (sym (ap (λ z. cond z (kept (s .device .books) (deedOf (s .device .books) c)) (refusedWith 1 (s .device .books))) (held (subst Right e (parsed-right (m .code) (m .content))))
+      (sym (ap (λ z. cond z (kept (s .device .books) (deedOf (s .device .books) c)) (refusedWith 1 (s .device .books))) (read-holds (subst Right e (parsed-right (m .code) (m .content))))
       ∙ ap (λ z. cond z (deedOf (s .device .books) c) (refusedWith 4 (s .device .books))) bad))
       (inr (unsound-books m c (record { frame = n; kind = e }) bad))
 

@@ -18,7 +18,7 @@ use Rattle.kinds.specs.declared.Parsed.the-variants.{Read, Syntax, Unknown}
 use Rattle.command.specs.Commands.{parsedOf}
 use Rattle.deeds.specs.Reasons.{three, four}
 use Rattle.deeds.specs.Effects.{effect, shows}
-use Rattle.deeds.specs.Deeds.{refusedWith, done, judged, byReasons, deedOf}
+use Rattle.deeds.specs.Deeds.{refusedWith, done, judged, kept, byReasons, deedOf}
 use Rattle.deeds.specs.declared.Deed.{Deed}
 use Rattle.deeds.proofs.Reasons.{judged-by-its-reasons}
 use Rattle.line.specs.Turns.{was, State, Carried, Turn, repeats, lastAnswer, onEvent, turn}

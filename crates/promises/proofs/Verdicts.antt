@@ -10,7 +10,7 @@ use borrow.Author.Tests.{leb-true, le-leb, lt-ltb}
 use Rattle.wire.specs.Bytes.{within}
 use Rattle.wire.proofs.Suits.{both}
 use Rattle.figures.specs.Parts.{has, upTo, past}
-use Rattle.figures.specs.Numbers.{fieldOf, priceOf, quantityOf, aboveZero, begins, percentOf, signedPriceOf}
+use Rattle.figures.specs.Numbers.{fieldNumber, fieldValue, signedNumber, signedMinus, signedSize, fieldOf, priceOf, quantityOf, aboveZero, begins, percentOf, signedPriceOf}
 use Rattle.figures.specs.declared.Number.{Number}
 use Rattle.figures.specs.declared.Number.the-variants.{Is, NotOne}
 use Rattle.figures.specs.declared.Signed.{Signed}
@@ -19,7 +19,7 @@ use Rattle.figures.proofs.Bounds.{price-small, quantity-some, quantity-small, p
 use Rattle.lines.specs.Texts.{isText, restOf}
 use Rattle.lines.specs.declared.Found.{Found}
 use Rattle.lines.specs.declared.Found.the-variants.{At, NotThere}
-use Rattle.kinds.specs.Fields.{comma, fieldThen, signedThen}
+use Rattle.kinds.specs.Fields.{comma, endsOr}
 use Rattle.kinds.specs.Plain.{bareOf, openOf, isFlag, sumsOf, closingOf}
 use Rattle.kinds.specs.declared.Adjust.{Adjust}
 use Rattle.kinds.specs.declared.Adjust.the-variants.{Nothing, PercentMore, PercentLess, AmountMore, AmountLess}
@@ -48,13 +48,14 @@ either : (x : Bool) (p q : Parsed) → Right p → Right q → Right (cond x p q
 either true p q l r = l
 either false p q l r = r
 
-field-right : (x : Number) (next : ℕ → Parsed) → ((n : ℕ) → x ≡ Is n → Right (next n)) → Right (fieldThen x next)
-field-right (Is n) next k = k n refl
-field-right NotOne next k = syntax
+-- a field that was read, and one with a sign
+field-right : (x : Number) (p : Parsed) → (x ≡ Is (fieldValue x) → Right p) → Right (endsOr (fieldNumber x) p)
+field-right (Is n) p k = k refl
+field-right NotOne p k = syntax
 
-signed-right : (x : Signed) (next : Bool → ℕ → Parsed) → ((minus : Bool) (n : ℕ) → x ≡ By minus n → Right (next minus n)) → Right (signedThen x next)
-signed-right (By minus n) next k = k minus n refl
-signed-right Neither next k = syntax
+signed-right : (x : Signed) (p : Parsed) → (x ≡ By (signedMinus x) (signedSize x) → Right p) → Right (endsOr (signedNumber x) p)
+signed-right (By minus n) p k = k refl
+signed-right Neither p k = syntax
 
 bare : (c : Command) (s : List ℕ) → holds c ≡ true → Right (bareOf c s)
 bare c s r = either (eqb (length s) 0) (Read c) Syntax (is-read r) syntax
@@ -62,10 +63,10 @@ bare c s r = either (eqb (length s) 0) (Read c) Syntax (is-read r) syntax
 opens : (s : List ℕ) → Right (openOf s)
 opens s =
     either (has comma s && has comma (past comma s)) _ Syntax
-    (field-right (fieldOf 1 (upTo comma s)) _ (λ o eo.
-    field-right (fieldOf 6 (upTo comma (past comma s))) _ (λ p ep.
-    field-right (fieldOf 5 (past comma (past comma s))) _ (λ t et.
-    either (within 1 8 o && leb 4 (length (upTo comma (past comma s)))) _ Syntax (is-read refl) syntax))))
+    (field-right (fieldOf 1 (upTo comma s)) _ (λ eo.
+    field-right (fieldOf 6 (upTo comma (past comma s))) _ (λ ep.
+    field-right (fieldOf 5 (past comma (past comma s))) _ (λ et.
+    either (within 1 8 (fieldValue (fieldOf 1 (upTo comma s))) && leb 4 (length (upTo comma (past comma s)))) _ Syntax (is-read refl) syntax))))
     syntax
 
 sums-right : (s : List ℕ) → Right (sumsOf s)
@@ -80,7 +81,10 @@ closing-right (a ∷ b ∷ s) = syntax
 
 drawer-right : (s : List ℕ) → Right (drawerOf s)
 drawer-right [] = is-read refl
-drawer-right (b ∷ s) = signed-right (signedPriceOf (b ∷ s)) _ (λ minus n e. is-read (go minus n (lt-ltb n 10000000000 (signed-price-small (b ∷ s) minus n e))))
+drawer-right (b ∷ s) =
+    let minus = signedMinus (signedPriceOf (b ∷ s)) in
+    let n = signedSize (signedPriceOf (b ∷ s)) in
+    signed-right (signedPriceOf (b ∷ s)) _ (λ e. is-read (go minus n (lt-ltb n 10000000000 (signed-price-small (b ∷ s) minus n e))))
   where
     go : (minus : Bool) (n : ℕ) → ltb n 10000000000 ≡ true → serviceHolds (cond minus (Out n) (In n)) ≡ true
     go true n e = e
@@ -105,7 +109,8 @@ above-zero NotOne n e = let z : _≡_ {A = ℕ} 0 1 = cc in absurd (omega arith)
 tender-right : (mode : Mode) (s : List ℕ) → Right (tenderOf mode s)
 tender-right mode [] = is-read refl
 tender-right mode (b ∷ s) =
-    field-right (aboveZero (priceOf (b ∷ s))) _ (λ n e.
+    let n = fieldValue (aboveZero (priceOf (b ∷ s))) in
+    field-right (aboveZero (priceOf (b ∷ s))) _ (λ e.
     let more = above-zero (priceOf (b ∷ s)) n e in
     is-read (and-true (more .1) (lt-ltb n 10000000000 (price-small (b ∷ s) n (more .0)))))
 
@@ -135,8 +140,10 @@ quantity-right s n = go (has star s)
 
 priced-right : (group : ℕ) (minus : Bool) (s : List ℕ) (a : Adjust) → group < 8 → adjustFits minus a ≡ true → Right (pricedOf group minus s a)
 priced-right group minus s a small fit =
-    field-right (priceOf (upTo star s)) _ (λ price ep.
-    field-right (quantityIn s) _ (λ quantity eq.
+    let price = fieldValue (priceOf (upTo star s)) in
+    let quantity = fieldValue (quantityIn s) in
+    field-right (priceOf (upTo star s)) _ (λ ep.
+    field-right (quantityIn s) _ (λ eq.
     let some = quantity-right s quantity eq in
     is-read
     (and-true
@@ -147,21 +154,27 @@ priced-right group minus s a small fit =
     (some .1))
     fit)))
 
-percent-right : (group : ℕ) → group < 8 → (line s : List ℕ) → Right (withPercent group line s)
-percent-right group small line s =
-    signed-right (percentOf s) _ (λ minus n e. priced-right group false line (cond minus (PercentLess n) (PercentMore n)) small (go minus n (le-leb n 9900 (percent-small s minus n e))))
-  where
-    go : (minus : Bool) (n : ℕ) → leb n 9900 ≡ true → adjustFits false (cond minus (PercentLess n) (PercentMore n)) ≡ true
-    go true n e = e
-    go false n e = e
+-- what follows the line, less or more
+fits-either : (minus : Bool) (less more : Adjust) → adjustFits false less ≡ true → adjustFits false more ≡ true → adjustFits false (cond minus less more) ≡ true
+fits-either true less more l m = l
+fits-either false less more l m = m
 
-amount-right : (group : ℕ) → group < 8 → (line s : List ℕ) → Right (withAmount group line s)
-amount-right group small line s =
-    signed-right (signedPriceOf s) _ (λ minus n e. priced-right group false line (cond minus (AmountLess n) (AmountMore n)) small (go minus n (lt-ltb n 10000000000 (signed-price-small s minus n e))))
-  where
-    go : (minus : Bool) (n : ℕ) → ltb n 10000000000 ≡ true → adjustFits false (cond minus (AmountLess n) (AmountMore n)) ≡ true
-    go true n e = e
-    go false n e = e
+module _ (group : ℕ) (small : group < 8) (line s : List ℕ) where
+  percent-right : Right (withPercent group line s)
+  percent-right =
+      let minus = signedMinus (percentOf s) in
+      let n = signedSize (percentOf s) in
+      signed-right (percentOf s) _ (λ e.
+      let fit : leb n 9900 ≡ true = le-leb n 9900 (percent-small s minus n e) in
+      priced-right group false line (cond minus (PercentLess n) (PercentMore n)) small (fits-either minus (PercentLess n) (PercentMore n) fit fit))
+
+  amount-right : Right (withAmount group line s)
+  amount-right =
+      let minus = signedMinus (signedPriceOf s) in
+      let n = signedSize (signedPriceOf s) in
+      signed-right (signedPriceOf s) _ (λ e.
+      let fit : ltb n 10000000000 ≡ true = lt-ltb n 10000000000 (signed-price-small s minus n e) in
+      priced-right group false line (cond minus (AmountLess n) (AmountMore n)) small (fits-either minus (AmountLess n) (AmountMore n) fit fit))
 
 sale-right : (group : ℕ) → group < 8 → (s : List ℕ) → Right (saleOf group s)
 sale-right group small s =
@@ -172,7 +185,9 @@ sale-right group small s =
 
 behind-tab-right : (s : List ℕ) → Right (behindTabOf s)
 behind-tab-right [] = syntax
-behind-tab-right (g ∷ s) = field-right (groupOf g) _ (λ group e. sale-right group (group-small g group e) s)
+behind-tab-right (g ∷ s) =
+    let group = fieldValue (groupOf g) in
+    field-right (groupOf g) _ (λ e. sale-right group (group-small g group e) s)
 
 pub parsed-right : (code : ℕ) (s : List ℕ) → Right (parsedOf code s)
 parsed-right code s =

@@ -22,7 +22,7 @@ use Rattle.reader.specs.declared.Reader.{Reader}
 use Rattle.till.specs.Words.{numberOf}
 use Rattle.till.specs.Turns.{idle, waits, Turn, Happening, command, byte, timeout, Meaning, failed, goesOn, answers, stays, gives, onMeaning, onByte, onTimeout, onCommand, sent, seqAfter, takes}
 use Rattle.till.specs.Fields.{pendingOf, stateOf, slotOf, tillOf, framed, heldIn, refused, saidOf, turnOf}
-use Rattle.till.specs.Private.{toldOf, failedBy, heardBy, sentBy}
+use Rattle.till.specs.Private.{spoken, failedBy, heardBy, sentBy}
 use Rattle.till.specs.declared.Attempt.{Attempt}
 use Rattle.till.specs.declared.Said.{Said}
 use Rattle.till.specs.declared.Slot.{Slot}
@@ -99,7 +99,7 @@ not-refused next seq code bytes tries (goesOn place) = refl
 not-refused next seq code bytes tries (answers m) = refl
 
 pub said-on : (t : Till) (next seq code : ℕ) (bytes : List ℕ) (tries : ℕ) (m : Meaning)
-    → toldOf (onMeaning next seq code bytes tries m) ≡ saidOf t (onMeaning next seq code bytes tries m)
+    → spoken (onMeaning next seq code bytes tries m) ≡ saidOf t (onMeaning next seq code bytes tries m)
 said-on t next seq code bytes tries m =
     let x : Turn = onMeaning next seq code bytes tries m in
     ap (λ c. record { till = cond c t (tillOf (x .state)); word = x .word }) (sym (not-refused next seq code bytes tries m))
@@ -108,10 +108,10 @@ said-on t next seq code bytes tries m =
 abbrev bySendable : ℕ → Message → Bool → Turn
 bySendable next m s = cond s (sent next m) (stays NotSent (record { next = next; pending = idle }))
 
-pub said-sent : (t : Till) (code : ℕ) (content : List ℕ) → t .slot ≡ Free → toldOf (sentBy (t .next) code content) ≡ saidOf t (sentBy (t .next) code content)
+pub said-sent : (t : Till) (code : ℕ) (content : List ℕ) → t .slot ≡ Free → spoken (sentBy (t .next) code content) ≡ saidOf t (sentBy (t .next) code content)
 said-sent t code content e = go (sendable Command (commandOf (t .next) code content))
   where
-    go : (s : Bool) → toldOf (bySendable (t .next) (commandOf (t .next) code content) s) ≡ saidOf t (bySendable (t .next) (commandOf (t .next) code content) s)
+    go : (s : Bool) → spoken (bySendable (t .next) (commandOf (t .next) code content) s) ≡ saidOf t (bySendable (t .next) (commandOf (t .next) code content) s)
     go true = refl
     go false = λ i. record { till = record { next = t .next; slot = sym e i }; word = NotSent }
 
@@ -170,16 +170,16 @@ module _ (next code : ℕ) (content array : List ℕ) (size : length array ≡ 2
 
   -- not sent
   pub says-not : sendable Command m ≡ false → (after buf : List ℕ) → after ≡ array
-      → (record { till = record { next = next; slot = Free }; word = NotSent } ≡ toldOf (sentBy next code content))
+      → (record { till = record { next = next; slot = Free }; word = NotSent } ≡ spoken (sentBy next code content))
       × ((after ≡ framed array (sentBy next code content .state .pending)) × (buf ≡ sets buf 0 (sentBy next code content .puts)))
   says-not e after buf same =
       let turn : sentBy next code content ≡ stays NotSent (record { next = next; pending = idle }) = ap (bySendable next m) e in
-      (ap toldOf (sym turn), (same ∙ ap (λ (z : Turn). framed array (z .state .pending)) (sym turn), ap (λ (z : Turn). sets buf 0 (z .puts)) (sym turn)))
+      (ap spoken (sym turn), (same ∙ ap (λ (z : Turn). framed array (z .state .pending)) (sym turn), ap (λ (z : Turn). sets buf 0 (z .puts)) (sym turn)))
 
   -- sent: the frame that is handed out is the one that is held
   pub says-sent : sendable Command m ≡ true → (n : ℕ) → n ≡ length (frame Command m) → (after buf buf' : List ℕ) → after ≡ sets array 0 (frame Command m)
       → buf' ≡ sets buf 0 (take n after) → (up : ℕ) → up ≡ seqAfter next → (start : Reader) → start ≡ readerOf outside
-      → (record { till = record { next = up; slot = Held (record { seq = next; code = code; tries = 1; count = n; reader = start }) }; word = Waiting n } ≡ toldOf (sentBy next code content))
+      → (record { till = record { next = up; slot = Held (record { seq = next; code = code; tries = 1; count = n; reader = start }) }; word = Waiting n } ≡ spoken (sentBy next code content))
       × ((after ≡ framed array (sentBy next code content .state .pending)) × (buf' ≡ sets buf 0 (sentBy next code content .puts)))
   says-sent e n count after buf buf' ea eb up eu start es =
       let turn : sentBy next code content ≡ sent next m = ap (bySendable next m) e in
@@ -189,6 +189,6 @@ module _ (next code : ℕ) (content array : List ℕ) (size : length array ≡ 2
         (λ i. record {
           till = record { next = eu i; slot = Held (record { seq = next; code = code; tries = 1; count = count i; reader = es i }) };
           word = Waiting (count i);
-        }) ∙ ap toldOf (sym turn),
+        }) ∙ ap spoken (sym turn),
         (ea ∙ ap (λ (z : Turn). framed array (z .state .pending)) (sym turn), eb ∙ ap (sets buf 0) held ∙ ap (λ (z : Turn). sets buf 0 (z .puts)) (sym turn)),
       )

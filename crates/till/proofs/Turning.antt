@@ -19,7 +19,7 @@ use Rattle.reader.specs.declared.Reader.{Reader}
 use Rattle.reader.specs.declared.Taken.{Taken}
 use Rattle.till.specs.Turns.{idle, waits, Turn, Meaning, failed, goesOn, answers, stays, gives, nakOutside, readAs, onMeaning}
 use Rattle.till.specs.Fields.{heldIn}
-use Rattle.till.specs.Private.{toldOf, failedBy, heardBy}
+use Rattle.till.specs.Private.{spoken, failedBy, heardBy}
 use Rattle.till.specs.declared.Attempt.{Attempt}
 use Rattle.till.specs.declared.Said.{Said}
 use Rattle.till.specs.declared.Slot.the-variants.{Free, Held}
@@ -95,19 +95,19 @@ module _ (next : ℕ) (a : Attempt) (frame : List ℕ) where
   pub says-again : a .tries < 5 → length frame ≡ 256 → a .count < 256 → (start : Reader) → start ≡ readerOf outside → (buf buf' : List ℕ)
       → buf' ≡ sets buf 0 (take (a .count) frame)
       → (record { till = record { next = next; slot = Held (record { seq = a .seq; code = a .code; tries = a .tries + 1; count = a .count; reader = start }) }; word = SendAgain (a .count) }
-      ≡ toldOf (failedBy next a frame)) × (buf' ≡ sets buf 0 (failedBy next a frame .puts))
+      ≡ spoken (failedBy next a frame)) × (buf' ≡ sets buf 0 (failedBy next a frame .puts))
   says-again h size fits start e buf buf' q =
       let long : a .count ≡ length (take (a .count) frame) = sym (length-take-le (a .count) frame (omega arith)) in (
         (λ i. record {
           till = record { next = next; slot = Held (record { seq = a .seq; code = a .code; tries = a .tries + 1; count = long i; reader = e i }) };
           word = SendAgain (long i);
-        }) ∙ ap toldOf (sym (fails-early h)),
+        }) ∙ ap spoken (sym (fails-early h)),
         q ∙ ap (λ (z : Turn). sets buf 0 (z .puts)) (sym (fails-early h)),
       )
 
   pub says-unfinished : 5 ≤ a .tries → (buf : List ℕ)
-      → (record { till = record { next = next; slot = Free }; word = Unfinished (a .tries) } ≡ toldOf (failedBy next a frame)) × (buf ≡ sets buf 0 (failedBy next a frame .puts))
-  says-unfinished h buf = (ap toldOf (sym (fails-last h)), ap (λ (z : Turn). sets buf 0 (z .puts)) (sym (fails-last h)))
+      → (record { till = record { next = next; slot = Free }; word = Unfinished (a .tries) } ≡ spoken (failedBy next a frame)) × (buf ≡ sets buf 0 (failedBy next a frame .puts))
+  says-unfinished h buf = (ap spoken (sym (fails-last h)), ap (λ (z : Turn). sets buf 0 (z .puts)) (sym (fails-last h)))
 
   -- it leaves the answer's bytes
   pub fails-keeps : (answer : List ℕ) → answer ≡ heldIn answer (failedBy next a frame .state .pending)
@@ -119,10 +119,10 @@ module _ (next : ℕ) (a : Attempt) (frame : List ℕ) where
       go false = refl
 
 -- what is said and what stays, from the turn
-pub told : (array array' buf buf' : List ℕ) (r : Said) (x y : Turn) → x ≡ y → r ≡ toldOf y → array' ≡ heldIn array (y .state .pending) → buf' ≡ sets buf 0 (y .puts)
-    → (r ≡ toldOf x) × ((array' ≡ heldIn array (x .state .pending)) × (buf' ≡ sets buf 0 (x .puts)))
+pub told : (array array' buf buf' : List ℕ) (r : Said) (x y : Turn) → x ≡ y → r ≡ spoken y → array' ≡ heldIn array (y .state .pending) → buf' ≡ sets buf 0 (y .puts)
+    → (r ≡ spoken x) × ((array' ≡ heldIn array (x .state .pending)) × (buf' ≡ sets buf 0 (x .puts)))
 told array array' buf buf' r x y e p q s =
-    (p ∙ ap toldOf (sym e), (q ∙ ap (λ (z : Turn). heldIn array (z .state .pending)) (sym e), s ∙ ap (λ (z : Turn). sets buf 0 (z .puts)) (sym e)))
+    (p ∙ ap spoken (sym e), (q ∙ ap (λ (z : Turn). heldIn array (z .state .pending)) (sym e), s ∙ ap (λ (z : Turn). sets buf 0 (z .puts)) (sym e)))
 
 -- a byte to a command that waits
 pub nak-is : (r : Reader) (answer : List ℕ) (b : ℕ) → nakOutside (placeOf r answer) b ≡ cond (r .inside) false (eqb b 0x15)
@@ -178,7 +178,7 @@ module _ (next : ℕ) (a : Attempt) (frame answer : List ℕ) (b : ℕ) where
   -- Waiting: one byte more of an answer
   pub goes-on : length frame ≡ 256 → a .count < 256 → (place : Place) (taken : Taken) → taken .reader ≡ readerOf place
       → record { till = record { next = next; slot = Held (record { seq = a .seq; code = a .code; tries = a .tries; count = a .count; reader = taken .reader }) }; word = Waiting 0 }
-      ≡ toldOf (turn (goesOn place))
+      ≡ spoken (turn (goesOn place))
   goes-on size fits place taken e =
       let long : a .count ≡ length (take (a .count) frame) = sym (length-take-le (a .count) frame (omega arith)) in
       λ i. record {
@@ -190,7 +190,7 @@ module _ (next : ℕ) (a : Attempt) (frame answer : List ℕ) (b : ℕ) where
 pub answered : (next : ℕ) (answer : List ℕ) (m : Message) → Stands answer m → (n : ℕ) → length (m .content) ≡ n → (r : Said) (buf buf' : List ℕ)
     → r ≡ record { till = record { next = next; slot = Free }; word = Answered (n + 6) }
     → buf' ≡ sets buf 0 (take n (drop 3 answer) ++ take 6 (drop (4 + n) answer))
-    → (r ≡ toldOf (gives Answered (m .content ++ m .status) (record { next = next; pending = idle }))) × (buf' ≡ sets buf 0 (m .content ++ m .status))
+    → (r ≡ spoken (gives Answered (m .content ++ m .status) (record { next = next; pending = idle }))) × (buf' ≡ sets buf 0 (m .content ++ m .status))
 answered next answer m s n size r buf buf' p q =
     let content : m .content ≡ take n (drop 3 answer) = s .content ∙ ap (λ k. take k (drop 3 answer)) size in
     let status : m .status ≡ take 6 (drop (4 + n) answer) = s .status ∙ ap (λ k. take 6 (drop (4 + k) answer)) size in

@@ -9,8 +9,8 @@ use Rattle.till.specs.declared.Attempt.{Attempt}
 use Rattle.till.specs.declared.Said.{Said}
 
 -- a turn as the fields say it
-abbrev pub toldOf : Turn → Said
-toldOf turn = record { till = tillOf (turn .state); word = turn .word }
+abbrev pub spoken : Turn → Said
+spoken turn = record { till = tillOf (turn .state); word = turn .word }
 
 -- a failed try, and a byte, to a command that waits; a command, where none waits
 abbrev pub failedBy : ℕ → Attempt → List ℕ → Turn

@@ -13,7 +13,7 @@ ghost use lib.Seq.{sets};
 ghost use Rattle.till.specs.Words.{numberOf, countOf};
 ghost use Rattle.till.specs.Turns.{command, byte, timeout, freshState, seqAfter};
 ghost use Rattle.till.specs.Fields.{tillOf, framed, heldIn, saidOf, turnOf};
-ghost use Rattle.till.specs.Private.{toldOf, failedBy, heardBy, sentBy};
+ghost use Rattle.till.specs.Private.{spoken, failedBy, heardBy, sentBy};
 ghost use Rattle.till.specs.declared.Slot.the-variants.{Free, Held};
 ghost use Rattle.till.specs.declared.Word.the-variants.{Waiting, Answered, NotSent};
 
@@ -117,7 +117,7 @@ pub fn command(till: Till, frame: &mut [u8; 256], code: u8, content: &[u8], buf:
 
 // The frame is built in its own array, and handed out from there at every try.
 fn send(next: u8, frame: &mut [u8; 256], code: u8, content: &[u8], buf: &mut [u8]) -> Said
-    ensures { λ r. ⌜ r ≡ toldOf (sentBy next code (now (content .entry))) ⌝ }
+    ensures { λ r. ⌜ r ≡ spoken (sentBy next code (now (content .entry))) ⌝ }
     ensures { λ r. ⌜ now (frame .exit) ≡ framed (now (frame .entry)) (sentBy next code (now (content .entry)) .state .pending) ⌝ }
     ensures { λ r. ⌜ now (buf .exit) ≡ sets (now (buf .entry)) 0 (sentBy next code (now (content .entry)) .puts) ⌝ }
 {
@@ -208,7 +208,7 @@ pub fn byte(till: Till, frame: &[u8; 256], answer: &mut [u8; 256], b: u8, buf: &
 // A byte to a command that waits.
 fn hear(next: u8, a: Attempt, frame: &[u8], answer: &mut [u8; 256], b: u8, buf: &mut [u8]) -> Said
     requires { ⌜ length (now frame) ≡ 256 ⌝ }
-    ensures { λ r. ⌜ r ≡ toldOf (heardBy next a (now (frame .entry)) (now (answer .entry)) b) ⌝ }
+    ensures { λ r. ⌜ r ≡ spoken (heardBy next a (now (frame .entry)) (now (answer .entry)) b) ⌝ }
     ensures { λ r. ⌜ now (answer .exit) ≡ heldIn (now (answer .entry)) (heardBy next a (now (frame .entry)) (now (answer .entry)) b .state .pending) ⌝ }
     ensures { λ r. ⌜ now (buf .exit) ≡ sets (now (buf .entry)) 0 (heardBy next a (now (frame .entry)) (now (answer .entry)) b .puts) ⌝ }
 {
@@ -280,7 +280,7 @@ fn answered(next: u8, answer: &[u8], n: usize, buf: &mut [u8]) -> Said
 // The same frame again, up to the fifth try.
 fn failed_try(next: u8, a: Attempt, frame: &[u8], buf: &mut [u8]) -> Said
     requires { ⌜ length (now frame) ≡ 256 ⌝ }
-    ensures { λ r. ⌜ r ≡ toldOf (failedBy next a (now (frame .entry))) ⌝ }
+    ensures { λ r. ⌜ r ≡ spoken (failedBy next a (now (frame .entry))) ⌝ }
     ensures { λ r. ⌜ now (buf .exit) ≡ sets (now (buf .entry)) 0 (failedBy next a (now (frame .entry)) .puts) ⌝ }
 {
     let tries = a.tries;
