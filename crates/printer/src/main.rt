@@ -1,13 +1,25 @@
 // A fresh device on a line: the raw bytes that it receives on standard input, all that it gives back on standard output, as soon as it
 // is there.
 use books::Books;
-use device::Given;
 use device::Hearing;
 use libc::STDIN_FILENO;
 use libc::STDOUT_FILENO;
 use line::Line;
 ghost use Prim.Native.Nat.{_≤_, _<_};
 ghost use lib.ListN.{length};
+
+// The device behind a chunk of bytes, and whether all that it gave back was written.
+struct Stand {
+    line: Line,
+    books: Books,
+    written: bool,
+}
+
+// The same behind a call.
+struct Done {
+    heard: Hearing,
+    written: bool,
+}
 
 fn main() {
     let mut frame = [0u8; 256];
@@ -21,18 +33,24 @@ fn main() {
         if n == 0 {
             return;
         }
-        let given = answer(line, books, &mut frame, &mut last, &chunk, n);
-        let next = given.line;
-        let after = given.books;
+        let stand = answer(line, books, &mut frame, &mut last, &chunk, n);
+        if !stand.written {
+            return;
+        }
+        let next = stand.line;
+        let after = stand.books;
         line = next;
         books = after;
         turns -= 1;
     }
 }
 
-// The bytes that are there: none at the end of the input.
+// The bytes that are there: none at the end of the input, or where it can't be read.
 fn some(chunk: &mut [u8]) -> usize {
     let got = libc::read(STDIN_FILENO, chunk);
+    if got < 0 {
+        os::fail(b"error: standard input can't be read");
+    }
     io::count(got, &*chunk)
 }
 
@@ -44,49 +62,49 @@ fn answer(
     last: &mut [u8; 217],
     chunk: &[u8],
     n: usize,
-) -> Given {
+) -> Stand {
     let mut at = line;
     let mut kept = books;
     let mut i = 0;
     while i < n {
         if chunk.len() < n {
-            return so_far(at, kept);
+            return stands(at, kept, false);
         }
-        let heard = call(at, kept, frame, last, &chunk[i..n]);
+        let called = call(at, kept, frame, last, &chunk[i..n]);
+        let heard = called.heard;
         let given = heard.given;
         let next = given.line;
         let after = given.books;
         at = next;
         kept = after;
         i += heard.taken;
+        if !called.written {
+            return stands(at, kept, false);
+        }
     }
-    so_far(at, kept)
+    stands(at, kept, true)
 }
 
 // One call, and what it gives back written out at once.
-fn call(
-    line: Line,
-    books: Books,
-    frame: &mut [u8; 256],
-    last: &mut [u8; 217],
-    bytes: &[u8],
-) -> Hearing
-    ensures { λ r. ⌜ r .taken ≤ length (now (bytes .entry)) ⌝ }
-    ensures { λ r. ⌜ (0 < length (now (bytes .entry)) → 0 < r .taken) ⌝ }
+fn call(line: Line, books: Books, frame: &mut [u8; 256], last: &mut [u8; 217], bytes: &[u8]) -> Done
+    ensures { λ r. ⌜ r .heard .taken ≤ length (now (bytes .entry)) ⌝ }
+    ensures { λ r. ⌜ (0 < length (now (bytes .entry)) → 0 < r .heard .taken) ⌝ }
 {
     let mut buf = [0u8; 217];
     let heard = device::hear(line, books, frame, last, &mut buf, bytes);
     let given = heard.given;
     let count = given.count;
-    io::write_all(STDOUT_FILENO, &buf[0..count]);
-    heard
+    let written = io::write_all(STDOUT_FILENO, &buf[0..count]);
+    if !written {
+        os::fail(b"error: standard output can't be written");
+    }
+    Done { heard, written }
 }
 
-fn so_far(line: Line, books: Books) -> Given {
-    Given {
+fn stands(line: Line, books: Books, written: bool) -> Stand {
+    Stand {
         line,
         books,
-        number: 0,
-        count: 0,
+        written,
     }
 }
