@@ -1,4 +1,7 @@
-// Hears every recording that the file `list` names, each on a fresh device, and compares what is given back with what is expected.
+// Plays every recorded session that the file `list` names to a fresh device or till end, and compares what it gives back with what is
+// expected.
+mod events;
+
 use libc::STDERR_FILENO;
 use libc::STDOUT_FILENO;
 ghost use Prim.Native.Nat.{_≤_};
@@ -62,7 +65,7 @@ fn line_end(names: &[u8], from: usize) -> usize
     at
 }
 
-// One session: NAME.in is what the device hears, NAME.out what it must give back.
+// One session: NAME.in is what the end hears, NAME.out what it must give back.
 fn session(name: &[u8]) -> bool {
     io::write_all(STDOUT_FILENO, name);
     let mut heard = [0u8; 65536];
@@ -78,7 +81,7 @@ fn session(name: &[u8]) -> bool {
         return false;
     }
     let mut given = [0u8; 524288];
-    holds(&heard[..n], &wanted[..m], &mut given)
+    holds(is_till(name), &heard[..n], &wanted[..m], &mut given)
 }
 
 // A whole file at the front of the buffer, and its length; where it is not there, or the buffer does not hold it with a byte to spare,
@@ -111,16 +114,31 @@ fn opened(name: &[u8], suffix: &[u8]) -> i32 {
     os::open_read(&path[..whole])
 }
 
-// What a fresh device gives back on these bytes, held against what is expected of it; all of it must fit the lent buffer.
-fn holds(heard: &[u8], wanted: &[u8], given: &mut [u8]) -> bool {
-    let mut orders = [0u8; 1];
-    let recorded = device::hear_all(heard, given, &mut orders);
-    let n = recorded.given;
+// A till end's sessions stand in the folder `till`.
+fn is_till(name: &[u8]) -> bool {
+    if name.len() < 5 {
+        return false;
+    }
+    name[0] == b't'
+}
+
+// What a fresh end gives back, held against what is expected of it; all of it must fit the lent buffer.
+fn holds(at_till: bool, heard: &[u8], wanted: &[u8], given: &mut [u8]) -> bool {
+    let n = play(at_till, heard, given);
     if n >= given.len() {
         word(b": more is given back than fits\n");
         return false;
     }
     told(heard.len(), &given[0..n], wanted)
+}
+
+fn play(at_till: bool, heard: &[u8], given: &mut [u8]) -> usize {
+    if at_till {
+        return events::tell_all(heard, given);
+    }
+    let mut orders = [0u8; 1];
+    let recorded = device::hear_all(heard, given, &mut orders);
+    recorded.given
 }
 
 fn told(heard: usize, given: &[u8], wanted: &[u8]) -> bool {

@@ -1,10 +1,9 @@
+-- Each turn goes one byte on.
 use Prim.Native.Nat.{_≤_, _-_}
 use lib.ListN.{length}
 use borrow.Author.Needs.{needs}
 use Rattle.sessions.proofs.line_end.Statement.{statement}
 use Rattle.sessions.proofs.line_end.Tie as tie
-use Rattle.sessions.proofs.line_end.Reads as reads
-use Rattle.sessions.proofs.line_end.Lts as lts
 
 abbrev Inv-loop : tie.InvT-loop
 Inv-loop names from at₀ at = (from ≤ at) × (at ≤ length names)
@@ -12,31 +11,24 @@ Inv-loop names from at₀ at = (from ≤ at) × (at ≤ length names)
 abbrev μ-loop : tie.MeasureT-loop
 μ-loop names from at₀ at = length names - at
 
--- src/main.rt:50:5
 loop-holds : tie.Need-loop-holds Inv-loop μ-loop
 loop-holds c = search needs
 
--- src/main.rt:51:12
 shared-slice-read-if1 : tie.Need-shared-slice-read-if1 Inv-loop μ-loop
 shared-slice-read-if1 c = search needs
 
--- src/main.rt:52:13
 returns : tie.Need-returns Inv-loop μ-loop
 returns c = search needs
 
--- src/main.rt:54:9
 add-at : tie.Need-add-at Inv-loop μ-loop
 add-at c = search needs
 
--- src/main.rt:50:5
 loop-less : tie.Need-loop-less Inv-loop μ-loop
 loop-less c = search needs
 
--- src/main.rt:50:5
 loop-again : tie.Need-loop-again Inv-loop μ-loop
 loop-again c = search needs
 
--- src/main.rt:44:1
 returns-2 : tie.Need-returns-2 Inv-loop μ-loop
 returns-2 c = search needs
 
