@@ -11,12 +11,16 @@ ghost use Rattle.io.specs.Counts.{Counts};
 fn main() {
     let fd = os::open_read(b"list");
     if fd < 0 {
-        to_error(b"error: there is no file 'list' here\n");
+        to_error(b"error: there is no file 'list' here; crates/sessions/data has one\n");
         return;
     }
     let mut names = io::buffer();
     let n = io::read_full(fd, &mut names);
     libc::close(fd);
+    if n == 4096 {
+        to_error(b"error: the file 'list' is too long\n");
+        return;
+    }
     each(&names[..n]);
 }
 
@@ -116,10 +120,7 @@ fn opened(name: &[u8], suffix: &[u8]) -> i32 {
 
 // A till end's sessions stand in the folder `till`.
 fn is_till(name: &[u8]) -> bool {
-    if name.len() < 5 {
-        return false;
-    }
-    name[0] == b't'
+    alike(name, b"till/") == 5
 }
 
 // What a fresh end gives back, held against what is expected of it; all of it must fit the lent buffer.
