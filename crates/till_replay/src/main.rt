@@ -1,5 +1,6 @@
 // A till end told of a list of events, and what it says of each. An event is the length of the buffer lent, then 43h, n, CMD and n bytes: a
 // command; 42h and a byte: a byte from the line; 54h: a timeout.
+use libc::STDERR_FILENO;
 use libc::STDIN_FILENO;
 use libc::STDOUT_FILENO;
 use till::Said;
@@ -7,43 +8,76 @@ use till::Till;
 use till::Word;
 ghost use Prim.Native.Nat.{_<_};
 
-// Events are read one by one to the end of the input. The count of turns only shows that the loop ends.
+// What was said of an event: the till end afterwards, and whether it was written.
+struct Told {
+    till: Till,
+    written: bool,
+}
+
+// Events are read one by one to the end of the input.
 fn main() {
     let mut frame = [0u8; 256];
     let mut answer = [0u8; 256];
     let mut event = [0u8; 259];
     let mut buf = [0u8; 256];
     let mut till = till::fresh();
-    let mut left: u64 = 0xFFFFFFFFFFFFFFFF;
-    while 0 < left {
+    let mut events: u64 = 0;
+    while events < 0xFFFFFFFFFFFFFFFF {
         let n = next_event(&mut event);
-        if n == 0 {
+        if n < 2 {
+            ended(n, events);
             return;
         }
-        till = tell(till, &mut frame, &mut answer, &event, n, &mut buf);
-        left -= 1;
+        let told = tell(till, &mut frame, &mut answer, &event, n, &mut buf);
+        if !told.written {
+            os::fail(b"error: standard output can't be written");
+            return;
+        }
+        let after = told.till;
+        till = after;
+        events += 1;
     }
 }
 
-// The next event at the front of the buffer, and its length: 0 where the input ends, or what comes is none.
+// Why there are no more events: 0 is the end of the input, 1 an event that is none.
+fn ended(n: usize, events: u64) {
+    if n == 0 {
+        return;
+    }
+    io::write_all(STDERR_FILENO, b"error: after ");
+    io::print_decimal(STDERR_FILENO, events);
+    io::write_all(
+        STDERR_FILENO,
+        b" events comes one that is cut short or is none: a length, then 43h, 42h or 54h\n",
+    );
+}
+
+// The next event at the front of the buffer, and its length: 0 where the input ends or can't be read, 1 where what comes is none.
 fn next_event(event: &mut [u8]) -> usize {
     if event.len() < 259 {
         return 0;
     }
-    if io::read_full(STDIN_FILENO, &mut event[0..2]) < 2 {
+    let got = libc::read(STDIN_FILENO, &mut event[0..1]);
+    if got < 0 {
+        os::fail(b"error: standard input can't be read");
+    }
+    if got < 1 {
         return 0;
+    }
+    if io::read_full(STDIN_FILENO, &mut event[1..2]) < 1 {
+        return 1;
     }
     if event[1] == b'T' {
         return 2;
     }
     if io::read_full(STDIN_FILENO, &mut event[2..3]) < 1 {
-        return 0;
+        return 1;
     }
     if event[1] == b'B' {
         return 3;
     }
     if event[1] != b'C' {
-        return 0;
+        return 1;
     }
     command_data(event)
 }
@@ -55,7 +89,7 @@ fn command_data(event: &mut [u8]) -> usize {
     }
     let end = wide(event[2]) + 4;
     if io::read_full(STDIN_FILENO, &mut event[3..end]) < end - 3 {
-        return 0;
+        return 1;
     }
     end
 }
@@ -74,22 +108,25 @@ fn tell(
     event: &[u8],
     n: usize,
     buf: &mut [u8],
-) -> Till {
+) -> Told {
     if n < 2 {
-        return till;
+        return so_far(till, false);
     }
     if event.len() < n {
-        return till;
+        return so_far(till, false);
     }
     let lent = wide(event[0]);
     if buf.len() < lent {
-        return till;
+        return so_far(till, false);
     }
     let said = happen(till, frame, answer, &event[1..n], &mut buf[0..lent]);
     let after = said.till;
     let word = said.word;
-    say(word, &*buf);
-    after
+    so_far(after, say(word, &*buf))
+}
+
+fn so_far(till: Till, written: bool) -> Told {
+    Told { till, written }
 }
 
 fn happen(
@@ -112,16 +149,19 @@ fn happen(
 }
 
 // The reply number, the word, the count, and the bytes put in the buffer; of Unfinished the tries alone.
-fn say(word: Word, buf: &[u8]) {
+fn say(word: Word, buf: &[u8]) -> bool {
     let n = till::count(word);
     let head = [till::number(word), place(word), (n % 256) as u8];
-    io::write_all(STDOUT_FILENO, &head);
+    if !io::write_all(STDOUT_FILENO, &head) {
+        return false;
+    }
     if till::number(word) != 0 {
-        return;
+        return true;
     }
-    if n <= buf.len() {
-        io::write_all(STDOUT_FILENO, &buf[0..n]);
+    if buf.len() < n {
+        return true;
     }
+    io::write_all(STDOUT_FILENO, &buf[0..n])
 }
 
 // The word's place in document 01's list.
