@@ -8,27 +8,44 @@ use kinds::Payment;
 use kinds::Sale;
 use kinds::Service;
 use kinds::Tender;
+use libc::STDERR_FILENO;
 use libc::STDIN_FILENO;
 use libc::STDOUT_FILENO;
+ghost use Rattle.io.specs.Counts.{Counts};
 
 fn main() {
     let mut buf = io::large_buffer();
-    let n = io::read_full(STDIN_FILENO, &mut buf);
-    records(&buf[..n]);
+    let n = all(&mut buf);
+    if records(&buf[..n]) < n {
+        io::write_all(STDERR_FILENO, b"error: the last record is cut short\n");
+    }
 }
 
-fn records(s: &[u8]) {
+// The whole input, as far as the buffer reaches.
+fn all(buf: &mut [u8]) -> usize
+    ensures { λ r. ⌜ Counts r (now (buf .exit)) ⌝ }
+{
+    let n = io::read_full(STDIN_FILENO, buf);
+    if n == 0 {
+        os::fail(b"error: standard input has no record");
+    }
+    n
+}
+
+// How many bytes the whole records have.
+fn records(s: &[u8]) -> usize {
     let mut i = 0;
     while i < s.len() {
         let used = record(&s[i..]);
         if used == 0 {
-            return;
+            return i;
         }
         if s.len() - i < used {
-            return;
+            return i;
         }
         i += used;
     }
+    i
 }
 
 // The length of the first record, or 0 where it is cut off.
@@ -174,5 +191,7 @@ fn field(name: &[u8], n: u64) {
 }
 
 fn word(s: &[u8]) {
-    io::write_all(STDOUT_FILENO, s);
+    if !io::write_all(STDOUT_FILENO, s) {
+        os::fail(b"error: standard output can't be written");
+    }
 }

@@ -19,7 +19,7 @@ fn main() {
             b"\x01\x01\x24\x50\x4A\x05\x30\x30\x3C\x33\x03",
         ),
     );
-    io::write_all(STDOUT_FILENO, b"BCC of 12ABh and 1AE3h\n");
+    word(b"BCC of 12ABh and 1AE3h\n");
     show(&wire::suit::bcc_bytes(0x12AB));
     show(&wire::suit::bcc_bytes(0x1AE3));
     refused();
@@ -43,10 +43,7 @@ fn papers() {
 }
 
 fn refused() {
-    io::write_all(
-        STDOUT_FILENO,
-        b"not to be sent: CMD 1Fh, data 1Fh, status 7Fh\n",
-    );
+    word(b"not to be sent: CMD 1Fh, data 1Fh, status 7Fh\n");
     command(b"", 0x20, 0x1F, b"");
     command(b"", 0x20, 0x4A, b"\x1F");
     let low = [0x80, 0x80, 0x80, 0x80, 0x7F, 0x80];
@@ -67,9 +64,9 @@ fn answer(name: &[u8], seq: u8, code: u8, content: &[u8], status: [u8; 6]) {
 
 // The frame, what it is read as, and what becomes of it when one byte is another.
 fn report(name: &[u8], kind: Kind, built: Built, buf: [u8; 217]) {
-    io::write_all(STDOUT_FILENO, name);
+    word(name);
     let Built::Frame(n) = built else {
-        io::write_all(STDOUT_FILENO, b"  8\n");
+        word(b"  8\n");
         return;
     };
     if n < 10 {
@@ -84,9 +81,9 @@ fn report(name: &[u8], kind: Kind, built: Built, buf: [u8; 217]) {
     let at = n - 2;
     other[at] = 0x40;
     tell(b"  last BCC byte 40h: ", reader::listen(kind, &other));
-    io::write_all(STDOUT_FILENO, b"  whole with any one byte changed: ");
+    word(b"  whole with any one byte changed: ");
     count(changed(kind, buf, n));
-    io::write_all(STDOUT_FILENO, b"\n");
+    word(b"\n");
 }
 
 // 1 where the frame is still heard as whole when one of its n bytes is the next value up, 0 where it never is.
@@ -120,23 +117,23 @@ fn next(b: u8) -> u8 {
 }
 
 fn tell(what: &[u8], told: reader::Told) {
-    io::write_all(STDOUT_FILENO, what);
-    io::write_all(STDOUT_FILENO, b"whole ");
+    word(what);
+    word(b"whole ");
     count(told.whole);
-    io::write_all(STDOUT_FILENO, b", broken ");
+    word(b", broken ");
     count(told.broken);
-    io::write_all(STDOUT_FILENO, b"\n");
+    word(b"\n");
 }
 
 fn count(n: usize) {
     let mut digit = [0u8; 1];
     text::put_field(&mut digit, 0, 1, n as u64);
-    io::write_all(STDOUT_FILENO, &digit);
+    word(&digit);
 }
 
 fn show(bytes: &[u8]) {
     pairs(bytes);
-    io::write_all(STDOUT_FILENO, b"\n");
+    word(b"\n");
 }
 
 // A space and two hexadecimal digits for each byte.
@@ -145,7 +142,7 @@ fn pairs(bytes: &[u8]) {
     while i < bytes.len() {
         let b = bytes[i];
         let pair = [b' ', hexadecimal(b / 16), hexadecimal(b % 16)];
-        io::write_all(STDOUT_FILENO, &pair);
+        word(&pair);
         i += 1;
     }
 }
@@ -158,4 +155,10 @@ fn hexadecimal(n: u8) -> u8 {
         return 55 + n;
     }
     b'?'
+}
+
+fn word(s: &[u8]) {
+    if !io::write_all(STDOUT_FILENO, s) {
+        os::fail(b"error: standard output can't be written");
+    }
 }

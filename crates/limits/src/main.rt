@@ -118,5 +118,7 @@ fn reply(built: Built) -> u64 {
 }
 
 fn word(s: &[u8]) {
-    io::write_all(STDOUT_FILENO, s);
+    if !io::write_all(STDOUT_FILENO, s) {
+        os::fail(b"error: standard output can't be written");
+    }
 }

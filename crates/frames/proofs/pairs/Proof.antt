@@ -22,11 +22,11 @@ hexadecimal-requires c κs = search needs
 hexadecimal-requires-2 : tie.Need-hexadecimal-requires-2 Inv-loop μ-loop
 hexadecimal-requires-2 c κs = search needs
 
-slice-aggregate-write-all : tie.Need-slice-aggregate-write-all Inv-loop μ-loop
-slice-aggregate-write-all c = search needs
+slice-aggregate-word : tie.Need-slice-aggregate-word Inv-loop μ-loop
+slice-aggregate-word c = search needs
 
-write-all-requires : tie.Need-write-all-requires Inv-loop μ-loop
-write-all-requires c κs = search needs
+word-requires : tie.Need-word-requires Inv-loop μ-loop
+word-requires c κs = search needs
 
 add-i : tie.Need-add-i Inv-loop μ-loop
 add-i c = search needs
@@ -50,8 +50,8 @@ pairs-spec =
     shared-slice-read-b
     hexadecimal-requires
     hexadecimal-requires-2
-    slice-aggregate-write-all
-    write-all-requires
+    slice-aggregate-word
+    word-requires
     add-i
     loop-less
     loop-again
