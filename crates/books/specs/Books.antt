@@ -1,4 +1,4 @@
--- The books of a fresh device, and books with a part of them changed.
+-- PROTOCOL 8.3 and 8.4: the books of a fresh device, and books with a part of them changed.
 use Prim.Native.Nat.{ℕ}
 use mathlib.Core.Bool.{Bool, true, false}
 use mathlib.Core.List.{List}
@@ -12,7 +12,7 @@ use Rattle.books.specs.declared.Opened.{Opened}
 use Rattle.books.specs.declared.Opened.the-variants.{Nothing, Fiscal, Text}
 use Rattle.books.specs.declared.Registers.{Registers}
 
--- all sums and counters zero, no receipt open
+-- PROTOCOL 8.4: all sums and counters zero, no receipt open
 abbrev pub freshBooks : Books
 freshBooks =
     record {
@@ -25,7 +25,7 @@ freshBooks =
       memory = record { closings = 0; total = 0 };
     }
 
--- which receipt is open
+-- PROTOCOL 5.2: which receipt is open: a fiscal one, a non-fiscal one, one of either kind
 abbrev pub fiscalOpen : Opened → Bool
 fiscalOpen Nothing = false
 fiscalOpen Fiscal = true
@@ -41,6 +41,7 @@ anyOpen Nothing = false
 anyOpen Fiscal = true
 anyOpen Text = true
 
+-- one part changed, all others as they were
 module _ (b : Books) where
   abbrev pub withReceipt : Opened → Receipt → Books
   withReceipt o r =

@@ -1,4 +1,4 @@
-// The books: what the device remembers of receipts, day and drawer, and what each command makes of it (document 01, "Commands").
+// The books: what the device remembers of receipts, day and drawer (PROTOCOL 8.3).
 pub mod parts;
 pub mod rates;
 pub mod sound;

@@ -1,4 +1,4 @@
--- Document 01, "Commands (decimal)": "Once read, a command is one of fourteen kinds, each with its own fields".
+-- PROTOCOL 5.1: fourteen kinds of command, each with its own form.
 use Prim.Native.Nat.{ℕ}
 use mathlib.Core.Bool.{cond}
 use mathlib.Core.List.{List, []}
@@ -10,7 +10,7 @@ use Rattle.kinds.specs.declared.Command.the-variants.{OpenText, CloseText, Clos
 use Rattle.kinds.specs.declared.Parsed.{Parsed}
 use Rattle.kinds.specs.declared.Parsed.the-variants.{Unknown}
 
--- the code, then the data; an unknown command is 2 whatever its data
+-- PROTOCOL 5.1, 2.2: the code, then the data; an unknown command is 2 whatever its data
 abbrev pub parsedOf : ℕ → List ℕ → Parsed
 parsedOf code s =
     cond (eqb code 38) (bareOf OpenText s)
@@ -29,8 +29,7 @@ parsedOf code s =
     (cond (eqb code 97) (bareOf Rates s)
     Unknown)))))))))))))
 
--- "The line of text handed on is the part of the frame's own bytes": the texts of a command, for whoever shows them. 42 has one, 49 and 53 have
--- L1 and L2, the others none
+-- PROTOCOL 4.7: the texts of a command, for whoever shows them, as parts of the data. 42 has one, 49 and 53 have L1 and L2, the others none
 abbrev pub firstText : ℕ → List ℕ → List ℕ
 firstText code s =
     cond (eqb code 42) (onlyLine s)

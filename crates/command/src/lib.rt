@@ -1,4 +1,4 @@
-// What the data of a command means (document 01, "Commands").
+// What the data of a command means (PROTOCOL 5.1).
 pub mod money;
 
 use kinds::Command;

@@ -1,22 +1,23 @@
--- A list cut at the first byte of a kind.
+-- PROTOCOL 4.8: a list cut at the first byte of a kind.
 use Prim.Native.Nat.{ℕ, suc, _+_}
 use mathlib.Core.Bool.{Bool, cond}
 use mathlib.Core.List.{List, [], _∷_}
 use lib.Dec.{ltb, eqb}
 use lib.ListN.{length, take, drop}
 
--- where the first b stands; the length where there is none
+-- PROTOCOL 4.8: where the first b stands; the length where there is none
 abbrev pub firstAt : ℕ → List ℕ → ℕ
 firstAt b [] = 0
 firstAt b (x ∷ xs) = cond (eqb x b) 0 (suc (firstAt b xs))
 
+-- whether there is one
 abbrev pub has : ℕ → List ℕ → Bool
 has b xs = ltb (firstAt b xs) (length xs)
 
--- the bytes up to the first b: all of them where there is none
+-- PROTOCOL 4.8: the bytes up to the first b: all of them where there is none
 abbrev pub upTo : ℕ → List ℕ → List ℕ
 upTo b xs = take (firstAt b xs) xs
 
--- the bytes past the first b: none where there is none
+-- PROTOCOL 4.8: the bytes past the first b: none where there is none
 abbrev pub past : ℕ → List ℕ → List ℕ
 past b xs = drop (firstAt b xs + 1) xs

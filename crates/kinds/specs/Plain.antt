@@ -1,4 +1,4 @@
--- Document 01, the commands whose data names no sum. "Data not of the form shown is 1".
+-- PROTOCOL 5.1: the forms of the commands whose data names no sum. Any other data is 1.
 use Prim.Native.Nat.{ℕ}
 use mathlib.Core.Bool.{Bool, true, false, cond, _&&_}
 use mathlib.Core.List.{List, [], _∷_}
@@ -14,15 +14,15 @@ use Rattle.kinds.specs.declared.Command.the-variants.{PrintText, Open, S
 use Rattle.kinds.specs.declared.Parsed.{Parsed}
 use Rattle.kinds.specs.declared.Parsed.the-variants.{Read, Syntax}
 
--- "Commands 39, 56, 60, 74 and 97 take no data", "38 takes no data"
+-- PROTOCOL 5.1: 38, 39, 56, 60, 74 and 97 have no data
 abbrev pub bareOf : Command → List ℕ → Parsed
 bareOf c s = cond (eqb (length s) 0) (Read c) Syntax
 
--- 42: "text up to 42 bytes"
+-- PROTOCOL 5.10: 42's data is one text
 abbrev pub textOf : List ℕ → Parsed
 textOf s = cond (isText s) (Read PrintText) Syntax
 
--- 48: "`Op,Pwd,Till`; Op one digit 1 to 8, Pwd 4 to 6 digits, Till 1 to 5 digits"
+-- PROTOCOL 5.3: Op, Pwd and Till of 48, each with its number of digits; Op is from 1 to 8, Pwd has 4 digits at least (DECISIONS 10)
 abbrev pub openWith : List ℕ → List ℕ → List ℕ → Parsed
 openWith op pwd till =
     fieldThen (fieldOf 1 op) (λ o.
@@ -30,11 +30,12 @@ openWith op pwd till =
     fieldThen (fieldOf 5 till) (λ t.
     cond (within 1 8 o && leb 4 (length pwd)) (Read (Open o (record { digits = length pwd; value = p }) t)) Syntax)))
 
+-- PROTOCOL 4.8, 5.1: 48, cut at its first comma and the first one behind that
 abbrev pub openOf : List ℕ → Parsed
 openOf s =
     cond (has comma s && has comma (past comma s)) (openWith (upTo comma s) (upTo comma (past comma s)) (past comma (past comma s))) Syntax
 
--- 51: "two characters, each 0 or 1"
+-- PROTOCOL 5.1, 5.5: 51 has two characters, `0` or `1`
 abbrev pub isFlag : ℕ → Bool
 isFlag b = within 0x30 0x31 b
 
@@ -44,13 +45,13 @@ subtotalOf s =
     (Read (Subtotal (eqb (getD s 0 0) 0x31) (eqb (getD s 1 0) 0x31)))
     Syntax
 
--- 65: "empty or 0, eight day sums; 1, eight taxes"
+-- PROTOCOL 5.12: 65 asks for the taxes with `1`; for the day sums with `0`, or with no data
 abbrev pub sumsOf : List ℕ → Parsed
 sumsOf [] = Read (Sums false)
 sumsOf (b ∷ []) = cond (eqb b 0x30) (Read (Sums false)) (cond (eqb b 0x31) (Read (Sums true)) Syntax)
 sumsOf (a ∷ b ∷ s) = Syntax
 
--- 69: "0 closes the day, 2 only reports"
+-- PROTOCOL 5.13: 69 closes the day with `0`; with `2` it is a report
 abbrev pub closingOf : List ℕ → Parsed
 closingOf [] = Syntax
 closingOf (b ∷ []) = cond (eqb b 0x30) (Read (Closing true)) (cond (eqb b 0x32) (Read (Closing false)) Syntax)

@@ -1,4 +1,4 @@
-// The fourteen kinds of command, each with its own fields (document 01, "Commands"), and the forms that name no sum.
+// The fourteen kinds of command, each with its own fields (PROTOCOL 5.1), and the forms that name no sum.
 pub mod plain;
 
 // Compared digit by digit, so with the number of its digits: 00000 is not 0000.

@@ -1,4 +1,4 @@
--- Document 01's texts, worked out by the definitions.
+-- PROTOCOL 4.7: texts, worked out by the definitions.
 use mathlib.Core.Path.{_≡_, refl}
 use mathlib.Core.Bool.{true, false}
 use mathlib.Core.List.{[], _∷_}

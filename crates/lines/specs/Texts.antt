@@ -1,4 +1,4 @@
--- Document 01, commands 49, 53 and 42: the texts before a Tab.
+-- PROTOCOL 4.7: the texts before the Tab of 49 and 53, and the text of 42.
 use Prim.Native.Nat.{ℕ, _+_}
 use mathlib.Core.Bool.{Bool, cond, _&&_}
 use mathlib.Core.List.{List, []}
@@ -9,25 +9,26 @@ use Rattle.figures.specs.Parts.{firstAt, has, upTo, past}
 use Rattle.lines.specs.declared.Found.{Found}
 use Rattle.lines.specs.declared.Found.the-variants.{At, NotThere}
 
--- "Texts up to 42 bytes, each byte 20h up (002)"; 42's data is one text, "text bytes as in 49"
+-- PROTOCOL 4.7: at most 42 bytes, none below 20h; 42's data is one text (5.10)
 abbrev pub isText : List ℕ → Bool
 isText s = leb (length s) 42 && every (leb 0x20) s
 
+-- PROTOCOL 5.1: the Tab behind the texts, the line feed between them
 abbrev pub tab : ℕ
 tab = 0x09
 
 abbrev pub lineFeed : ℕ
 lineFeed = 0x0A
 
--- "[L1][LF L2]" of what stands before the Tab. A second LF would stand in L2, where no byte is below 20h.
+-- PROTOCOL 4.7: L1 and L2 of what stands before the Tab. A second line feed would stand in L2, where no byte is below 20h.
 abbrev pub areTexts : List ℕ → Bool
 areTexts s = isText (upTo lineFeed s) && isText (past lineFeed s)
 
--- "[L1][LF L2]Tab", with any bytes behind it
+-- PROTOCOL 4.7: texts and a Tab, with any bytes behind it
 abbrev pub beginsWithTexts : List ℕ → Bool
 beginsWithTexts s = has tab s && areTexts (upTo tab s)
 
--- document 01's reply number, and the value: where the rest begins. "Data not of the form shown is 1"
+-- PROTOCOL 4.7, 5.1: the number, and the value: where the rest begins; 1 for data of another form
 abbrev pub foundNumber : Found → ℕ
 foundNumber (At start) = 0
 foundNumber NotThere = 1
@@ -36,11 +37,12 @@ abbrev pub foundStart : Found → ℕ
 foundStart (At start) = start
 foundStart NotThere = 0
 
+-- PROTOCOL 4.7: the rest begins behind the first Tab
 abbrev pub restOf : List ℕ → Found
 restOf s = cond (beginsWithTexts s) (At (firstAt tab s + 1)) NotThere
 
--- "The line of text handed on is the part of the frame's own bytes": 42's, L1 and L2, each of no bytes where it is left out or the data
--- is not of the form
+-- PROTOCOL 4.7: texts as they are handed on, parts of the data: 42's, L1 and L2, each of no bytes where it is left out or the data is not of
+-- the form
 abbrev pub onlyLine : List ℕ → List ℕ
 onlyLine s = cond (isText s) s []
 

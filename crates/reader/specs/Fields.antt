@@ -1,4 +1,4 @@
--- What the reader's fields and answers say, with document 01's numbers.
+-- What the reader's fields say, with the lent array, and the numbers of what a byte brings (PROTOCOL 2.1).
 use Prim.Native.Nat.{ℕ, _+_}
 use mathlib.Core.Bool.{true, false, cond}
 use mathlib.Core.List.{List, [], _∷_}
@@ -12,7 +12,7 @@ use Rattle.reader.specs.declared.Reader.{Reader}
 use Rattle.reader.specs.declared.Taken.{Taken}
 use Rattle.reader.specs.declared.Told.{Told}
 
--- the place that the reader's fields say, with the lent array that holds the bytes since 01h
+-- PROTOCOL 8.3, 8.5: where reading stands, as the reader's fields say it with the lent array that holds the bytes since 01h
 abbrev pub placeOf : Reader → List ℕ → Place
 placeOf r array = cond (r .inside) (inside (r .sum) (take (r .count) array)) outside
 
@@ -26,7 +26,7 @@ abbrev pub keptIn : List ℕ → Place → List ℕ
 keptIn array outside = array
 keptIn array (inside sum bytes) = sets array 0 bytes
 
--- document 01's reply number of what a byte brought: "0: byte taken", "5: broken frame"; a whole frame's own number is its command's to say
+-- PROTOCOL 2.1: the number of what a byte brought: 0 taken, 5 a broken frame; a whole frame's own number is its command's to say
 abbrev pub heardNumber : Heard → ℕ
 heardNumber Nothing = 0
 heardNumber Broken = 5
@@ -38,6 +38,7 @@ heardValues Nothing = []
 heardValues Broken = []
 heardValues (Whole seq code count) = seq ∷ code ∷ count ∷ []
 
+-- an event as it is told, and a step of reading
 abbrev pub heardOf : Event → Heard
 heardOf nothing = Nothing
 heardOf brokenFrame = Broken

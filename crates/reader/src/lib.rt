@@ -1,4 +1,4 @@
-// Reading a frame, one byte at a time (document 01, "Frames", "Reading").
+// Reading a frame, one byte at a time (PROTOCOL 1.7 to 1.9).
 use wire::Kind;
 use wire::suit;
 ghost use mathlib.Core.Path.{_≡_};

@@ -1,4 +1,4 @@
--- Document 01, "Frames": a command and an answer as values, and the bytes of each.
+-- PROTOCOL 1.2 to 1.5: a command and an answer as values, and the bytes of each.
 use Prim.Native.Nat.{ℕ, _+_, _/_, _%_}
 use mathlib.Core.Bool.{Bool, _&&_}
 use mathlib.Core.List.{List, [], _∷_, _++_}
@@ -9,7 +9,7 @@ use Rattle.wire.specs.declared.Kind.{Kind}
 use Rattle.wire.specs.declared.Kind.the-variants.{Command, Answer}
 use Rattle.wire.specs.declared.Sort.the-variants.{Mark, Data, Status}
 
--- SEQ, CMD and data. An answer has six status bytes besides, a command none.
+-- PROTOCOL 1.2: SEQ, CMD and data. An answer has six status bytes besides, a command none.
 pub record Message : Type 0 where
   pub seq : ℕ
   pub code : ℕ
@@ -22,46 +22,46 @@ commandOf seq code content = record { seq = seq; code = code; content = content;
 abbrev pub answerOf : ℕ → ℕ → List ℕ → List ℕ → Message
 answerOf seq code content status = record { seq = seq; code = code; content = content; status = status }
 
--- "BCC is the sum of the bytes LEN to 05h"
+-- PROTOCOL 1.5: the sum that BCC writes
 abbrev pub total : List ℕ → ℕ
 total [] = 0
 total (b ∷ bs) = b + total bs
 
--- "as four bytes 30h + each hexadecimal digit, highest first: 12ABh is 31h 32h 3Ah 3Bh"
+-- PROTOCOL 1.5: the last hexadecimal digit as a byte, 30h plus the digit; BCC has four, the highest first (DECISIONS 4)
 abbrev pub hexadecimal : ℕ → ℕ
 hexadecimal n = 0x30 + n % 16
 
 abbrev pub bcc : ℕ → List ℕ
 bcc sum = hexadecimal (sum / 4096) ∷ hexadecimal (sum / 256) ∷ hexadecimal (sum / 16) ∷ hexadecimal sum ∷ []
 
--- what stands between CMD and 05h: "data (0 to 200 bytes)", and in an answer "04h, STATUS (6 bytes ..)" behind it
+-- PROTOCOL 1.2: what stands between CMD and 05h: the data, and in an answer 04h and STATUS behind it
 abbrev pub inner : Kind → Message → List ℕ
 inner Command m = m .content
 inner Answer m = m .content ++ 0x04 ∷ m .status
 
--- "LEN is the number of bytes from LEN to 05h, both counted, plus 20h"
+-- PROTOCOL 1.3: the bytes from LEN to 05h; LEN is their number plus 20h
 abbrev pub counted : ℕ → ℕ → List ℕ → List ℕ
 counted seq code between = (length between + 4 + 0x20) ∷ seq ∷ code ∷ between ++ 0x05 ∷ []
 
--- 01h, the bytes from LEN to 05h, their BCC, 03h
+-- PROTOCOL 1.2, 1.5: 01h, the bytes from LEN to 05h, their BCC, 03h
 abbrev pub enclosed : ℕ → ℕ → List ℕ → List ℕ
 enclosed seq code between = 0x01 ∷ counted seq code between ++ bcc (total (counted seq code between)) ++ 0x03 ∷ []
 
--- "Command: 01h, LEN, SEQ, CMD, data, 05h, BCC, 03h. Answer: 01h, LEN, SEQ, CMD, data, 04h, STATUS, 05h, BCC, 03h."
+-- PROTOCOL 1.2: the whole frame of a command or of an answer
 abbrev pub frame : Kind → Message → List ℕ
 frame k m = enclosed (m .seq) (m .code) (inner k m)
 
--- how many status bytes a frame of each kind has
+-- PROTOCOL 1.2: how many status bytes a frame of each kind has
 abbrev pub statuses : Kind → ℕ
 statuses Command = 0
 statuses Answer = 6
 
--- SEQ, CMD and data that may stand in a frame; "can't be sent (.. CMD below 20h, data over 200, data byte not allowed)"
+-- PROTOCOL 1.2, 7.2: SEQ, CMD and data that can be sent: all in their ranges, 200 data bytes at most
 abbrev pub carriable : ℕ → ℕ → List ℕ → Bool
 carriable seq code content =
     mayStand Mark seq && mayStand Mark code && leb (length content) 200 && every (mayStand Data) content
 
--- what can be sent: these, and as many status bytes as the kind has, each of which may stand there
+-- PROTOCOL 1.2: what can be sent: these, and as many status bytes as the kind has, each in its range (DECISIONS 6)
 abbrev pub sendable : Kind → Message → Bool
 sendable k m =
     carriable (m .seq) (m .code) (m .content)

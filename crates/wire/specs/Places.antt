@@ -1,4 +1,4 @@
--- Document 01, "Frames": one test for each place of a frame. Where commands and answers differ, both stand side by side.
+-- PROTOCOL 1.2 and 1.7: one test for each place of a frame. Where commands and answers differ, both stand side by side.
 use Prim.Native.Nat.{ℕ, _+_, _-_}
 use mathlib.Core.Bool.{Bool, false}
 use mathlib.Core.List.{List, [], _∷_, _++_, map}
@@ -10,33 +10,34 @@ use Rattle.wire.specs.declared.Kind.{Kind}
 use Rattle.wire.specs.declared.Kind.the-variants.{Command, Answer}
 use Rattle.wire.specs.declared.Sort.the-variants.{Mark, Data, Status}
 
+-- PROTOCOL 1.7: a place that one byte alone suits
 abbrev pub is : ℕ → ℕ → Bool
 is wanted b = eqb b wanted
 
--- behind the last byte of a frame nothing suits
+-- PROTOCOL 1.7: 03h is last; behind it nothing suits
 abbrev pub none : ℕ → Bool
 none b = false
 
--- between the data and 05h: nothing in a command, 04h and six status bytes in an answer
+-- PROTOCOL 1.2: between the data and 05h: nothing in a command, 04h and six status bytes in an answer
 abbrev pub behindData : Kind → List (ℕ → Bool)
 behindData Command = []
 behindData Answer = is 0x04 ∷ replicate 6 (mayStand Status)
 
--- "24h to ECh for commands, 2Bh to F3h for answers"
+-- PROTOCOL 1.2, 1.3: LEN without data, 24h or 2Bh, and with 200 data bytes, ECh or F3h
 abbrev pub shortest : Kind → ℕ
 shortest k = 0x24 + length (behindData k)
 
 abbrev pub longest : Kind → ℕ
 longest k = shortest k + 200
 
--- the places from SEQ to 05h, a test to a place, where n data bytes stand: "05h stand where LEN says"
+-- PROTOCOL 1.7: the places from SEQ to 05h, a test to a place, where n data bytes stand: 04h and 05h are where LEN puts them
 abbrev pub front : Kind → ℕ → List (ℕ → Bool)
 front k n = mayStand Mark ∷ mayStand Mark ∷ replicate n (mayStand Data) ++ behindData k ++ is 0x05 ∷ []
 
--- the places behind 05h: "each BCC byte be the one expected", then 03h
+-- PROTOCOL 1.7: the places behind 05h: the BCC of the bytes before, byte by byte, then 03h
 abbrev pub ending : ℕ → List (ℕ → Bool)
 ending sum = map is (bcc sum) ++ is 0x03 ∷ []
 
--- how many data bytes LEN announces
+-- PROTOCOL 1.3: how many data bytes LEN announces
 abbrev pub dataCount : Kind → ℕ → ℕ
 dataCount k len = len - shortest k

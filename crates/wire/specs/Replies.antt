@@ -1,4 +1,4 @@
--- What the functions of this layer answer, with document 01's numbers.
+-- PROTOCOL 2.1, 2.4 and 2.5: what the functions of this layer answer, with its number.
 use Prim.Native.Nat.{ℕ}
 use mathlib.Core.Bool.{cond}
 use mathlib.Core.List.{List}
@@ -11,33 +11,33 @@ use Rattle.wire.specs.declared.Kind.the-variants.{Command, Answer}
 use Rattle.wire.specs.declared.Built.{Built}
 use Rattle.wire.specs.declared.Built.the-variants.{Frame, Short, Unsendable}
 
--- "7: lent buffer too short (device 217, till end 210)"
+-- PROTOCOL 2.4: how many bytes are to be lent, at the till end and at the device, whatever the frame (DECISIONS 5)
 abbrev pub room : Kind → ℕ
 room Command = 210
 room Answer = 217
 
--- a reply: its number, how many bytes are given back, and the lent buffer afterwards
+-- PROTOCOL 2.1, 2.5: a reply: its number, how many bytes are given back, and the lent buffer afterwards
 pub record Reply : Type 0 where
   pub number : ℕ
   pub count : ℕ
   pub buffer : List ℕ
 
--- number 0 with the frame's bytes, 7 or 8 with none
+-- PROTOCOL 2.1: number 0 with the frame's bytes, 7 or 8 with none
 abbrev pub replyOf : Built → List ℕ → Reply
 replyOf (Frame count) buffer = record { number = 0; count = count; buffer = buffer }
 replyOf Short buffer = record { number = 7; count = 0; buffer = buffer }
 replyOf Unsendable buffer = record { number = 8; count = 0; buffer = buffer }
 
--- `sets buffer 0 bytes` is the buffer with these bytes from its front on.
--- "Order: 7, 8"; "Buffer bytes past the answer stay as they were; when nothing is given back, all do."
+-- PROTOCOL 2.2, 2.5: 7 is looked for before 8; all bytes but those given back stay. `sets buffer 0 bytes` is the buffer with these
+-- bytes from its front on.
 abbrev pub building : Kind → List ℕ → Message → Reply
 building k buffer m =
     cond (ltb (length buffer) (room k)) (replyOf Short buffer)
     (cond (sendable k m) (replyOf (Frame (length (frame k m))) (sets buffer 0 (frame k m)))
     (replyOf Unsendable buffer))
 
--- an answer around n data bytes that stand in their place, from the buffer's fifth byte on. SEQ and CMD are the command's own, as they came,
--- data and status the device's: only 7 and the number of data bytes are judged.
+-- PROTOCOL 1.2, 2.4, 2.5: an answer around n data bytes that stand in their place, from the buffer's fifth byte on. SEQ and CMD are the
+-- command's own, as they came, data and status the device's: only 7 and the number of data bytes are judged (DECISIONS 6).
 abbrev pub sealing : List ℕ → ℕ → ℕ → ℕ → List ℕ → Reply
 sealing buffer seq code n status =
     let sealed = frame Answer (answerOf seq code (take n (drop 4 buffer)) status) in

@@ -1,4 +1,4 @@
-// Command and answer frames (document 01, "Frames"), built and read.
+// Command and answer frames (PROTOCOL 1.2 to 1.7), built and read.
 pub mod build;
 pub mod suit;
 
