@@ -1,4 +1,4 @@
--- DECISIONS 31: what a call on the line makes of the device: the second half of a byte, which alone moves the books.
+-- What a call on the line makes of the device: the second half of a byte, which alone moves the books.
 use Prim.Native.Nat.{ℕ}
 use mathlib.Core.List.{List, [], _∷_}
 use lib.ListN.{length, take, drop}

@@ -39,7 +39,7 @@ mayCome c = sendable Command (c .command) && all (mayArrive (frame Command (c .c
 abbrev pub tried : Sent → Bool
 tried c = mayCome c && any isWhole (c .tries)
 
--- PROTOCOL 9.6: neighbours differ in SEQ or CMD; else 1.12 would hold
+-- PROTOCOL 9.6: neighbours differ in SEQ or CMD (1.12 says why)
 abbrev pub differ : Message → Message → Bool
 differ m n = not (eqb (m .seq) (n .seq) && eqb (m .code) (n .code))
 
