@@ -22,7 +22,7 @@ serviceHolds Report = true
 serviceHolds (In n) = ltb n 10000000000
 serviceHolds (Out n) = ltb n 10000000000
 
--- PROTOCOL 8.7: a sale by the numbers that its form can say, and so 53 and 70
+-- PROTOCOL 8.7: a sale by the numbers that its form can say. DECISIONS 57: 53 and 70 likewise
 abbrev pub holds : Command → Bool
 holds OpenText = true
 holds CloseText = true

@@ -65,7 +65,7 @@ module _ {B : Type 0} (carry : B → Message → Carried B) where
         state = record { place = next; before = was (m .seq) (m .code) (carry (s .books) m .answer); books = carry (s .books) m .books };
       })
 
-  -- PROTOCOL 2.1: 0, a byte taken. PROTOCOL 1.8: 5, one NAK. Both leave all but where reading stands: a broken frame is not the frame before (1.10)
+  -- PROTOCOL 2.1: 0, a byte taken. PROTOCOL 1.8, 1.9: 5, one NAK. Both leave all but where reading stands: a broken frame is not the frame before (1.10)
   abbrev pub onEvent : State B → Place → Event → Turn B
   onEvent s next nothing = record { number = 0; gives = []; carried = []; state = record { place = next; before = s .before; books = s .books } }
   onEvent s next brokenFrame =
