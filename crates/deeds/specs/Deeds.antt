@@ -1,5 +1,5 @@
--- Document 01, "Commands": each command judged by its reasons (`Reasons`), and done (`Effects`) where there is none, with its reply number and what its
--- answer shows. Every reason for 3 goes before every reason for 4.
+-- PROTOCOL chapter 5: each command judged by its reasons (`Reasons`), and done (`Effects`) where there is none, with its reply number and what its answer
+-- shows.
 use Prim.Native.Nat.{ℕ}
 use mathlib.Core.Bool.{Bool, false, cond}
 use lib.Dec.{eqb}
@@ -28,30 +28,31 @@ use Rattle.deeds.specs.Effects.{newReceipt, effect, shows}
 pub use Rattle.deeds.specs.Reasons.{full, isRight, registerOf}
 pub use Rattle.deeds.specs.Effects.{raisedBy, cleared}
 
--- "3 not permitted now", "4 overflow": the books stay and nothing is shown
+-- PROTOCOL 2.3, 5.1: a refusal changes nothing in the books, and its answer has no data
 abbrev pub refusedWith : ℕ → Books → Deed
 refusedWith number b = record { number = number; books = b; shown = shown.Nothing }
 
+-- PROTOCOL 2.1: done is number 0
 abbrev pub done : Books → Shown → Deed
 done b s = record { number = 0; books = b; shown = s }
 
--- reasons for 3, then reasons for 4, else what is done
+-- PROTOCOL 2.2: reasons for 3, then reasons for 4, else what is done
 abbrev pub judged : Books → Bool → Bool → Deed → Deed
 judged b for3 for4 deed = cond for3 (refusedWith 3 b) (cond for4 (refusedWith 4 b) deed)
 
--- books that no fresh device can come to are refused with 4, and stay
+-- PROTOCOL 8.7, DECISIONS 26: books that no fresh device can come to are refused with 4, and stay
 abbrev pub kept : Books → Deed → Deed
 kept b deed = cond (sound b) deed (refusedWith 4 b)
 
--- a command by its reasons, its effect and what it shows
+-- PROTOCOL 2.2: a command by its reasons, its effect and what it shows
 abbrev pub byReasons : Books → Command → Deed
 byReasons b c = judged b (three b c) (four b c) (done (effect b c) (shows b c))
 
--- 48
+-- PROTOCOL 5.3: 48, open a fiscal receipt
 abbrev pub openedBy : Books → Password → Deed
 openedBy b p = judged b (noOpening b p) false (done (newReceipt b) shown.AllAndFiscal)
 
--- 38, 42, 39
+-- PROTOCOL 5.9, 5.10, 5.11: 38, 42 and 39, the non-fiscal receipt
 abbrev pub textOpened : Books → Deed
 textOpened b = byReasons b OpenText
 
@@ -61,7 +62,7 @@ textPrinted b = byReasons b PrintText
 abbrev pub textClosed : Books → Deed
 textClosed b = byReasons b CloseText
 
--- 49: "no fiscal receipt open" is one more reason for 3; the receipt judges the rest, with what the books say of the group
+-- PROTOCOL 5.4: 49, a sale. With no fiscal receipt open it is 3; the receipt judges the rest, with what the books say of the group
 abbrev pub soldAs : Books → Sold → Deed
 soldAs b s =
     cond (eqb (s .number) 0) (done (withReceipt b (b .opened) (s .receipt)) shown.Nothing) (refusedWith (s .number) b)
@@ -69,11 +70,11 @@ soldAs b s =
 abbrev pub sold : Books → Sale → Deed
 sold b s = judged b (noneOpen b) false (soldAs b (soldOf (b .receipt) s (isEnabled (rateOf (s .group))) (at (b .day) (s .group))))
 
--- 51
+-- PROTOCOL 5.5: 51, subtotal
 abbrev pub subtotalled : Books → Deed
 subtotalled b = judged b (noneOpen b) false (done b shown.Subtotal)
 
--- 53, likewise
+-- PROTOCOL 5.6: 53, total, judged likewise
 abbrev pub paidAs : Books → Mode → Paid → Deed
 paidAs b m p =
     cond (eqb (p .number) 0)
@@ -83,11 +84,11 @@ paidAs b m p =
 abbrev pub paid : Books → Payment → Deed
 paid b p = judged b (noneOpen b) false (paidAs b (p .mode) (paymentOf (b .receipt) p (registerOf b (p .mode))))
 
--- 56
+-- PROTOCOL 5.7: 56, close the fiscal receipt
 abbrev pub closed : Books → Deed
 closed b = byReasons b Close
 
--- 60, as 49
+-- PROTOCOL 5.8: 60, cancel it, judged as 49 is
 abbrev pub cancelledAs : Books → Sold → Deed
 cancelledAs b s =
     cond (eqb (s .number) 0) (done (withReceipt b opened.Nothing (s .receipt)) shown.Nothing) (refusedWith (s .number) b)
@@ -95,7 +96,7 @@ cancelledAs b s =
 abbrev pub cancelled : Books → Deed
 cancelled b = judged b (noneOpen b) false (cancelledAs b (cancelOf (b .receipt)))
 
--- 65, 69, 70
+-- PROTOCOL 5.12, 5.13, 5.14: 65, 69 and 70, the day and the drawer
 abbrev pub summed : Books → Bool → Deed
 summed b taxes = byReasons b (Sums taxes)
 
@@ -105,7 +106,7 @@ dayClosed b clears = byReasons b (Closing clears)
 abbrev pub served : Books → Service → Deed
 served b s = byReasons b (Drawer s)
 
--- the fourteen kinds
+-- PROTOCOL 5.1: the fourteen kinds
 abbrev pub deedOf : Books → Command → Deed
 deedOf b OpenText = textOpened b
 deedOf b CloseText = textClosed b
@@ -122,6 +123,6 @@ deedOf b (Drawer s) = served b s
 deedOf b Status = byReasons b Status
 deedOf b Rates = byReasons b Rates
 
--- "Order: .. 1, 3, 4"
+-- PROTOCOL 2.2: 1 goes before 3 and 4. DECISIONS 57: it is 1 where a command holds what no data gives
 abbrev pub carriedOut : Books → Command → Deed
 carriedOut b c = cond (holds c) (kept b (deedOf b c)) (refusedWith 1 b)

@@ -1,5 +1,5 @@
--- What a command can hold: numbers as the forms of its data give them. "Data not of the form shown is 1": a command with any other number is 1, before the
--- books are asked.
+-- PROTOCOL 8.7, DECISIONS 57: what a command can hold, numbers as the forms of its data give them. A command with any other number is 1, before the books
+-- are asked.
 use Prim.Native.Nat.{ℕ}
 use mathlib.Core.Bool.{Bool, true, _&&_}
 use lib.Dec.{ltb}
@@ -11,17 +11,18 @@ use Rattle.kinds.specs.declared.Tender.{Tender}
 use Rattle.kinds.specs.declared.Tender.the-variants.{Rest, Amount}
 use Rattle.receipt.specs.Lines.{fits}
 
--- 53: "Amount is a PRICE above zero; none means the rest."
+-- PROTOCOL 5.6, 4.2: the rest, or an amount above zero; like every PRICE it has ten digits of stotinki at most
 abbrev pub tenderHolds : Tender → Bool
 tenderHolds Rest = true
 tenderHolds (Amount n) = ltb 0 n && ltb n 10000000000
 
--- 70: "empty, or optional sign .. and PRICE"
+-- PROTOCOL 5.14, 4.2: nothing, or a PRICE put in or taken out, of ten digits of stotinki at most
 abbrev pub serviceHolds : Service → Bool
 serviceHolds Report = true
 serviceHolds (In n) = ltb n 10000000000
 serviceHolds (Out n) = ltb n 10000000000
 
+-- PROTOCOL 8.7: a sale by the numbers that its form can say. DECISIONS 57: 53 and 70 likewise
 abbrev pub holds : Command → Bool
 holds OpenText = true
 holds CloseText = true

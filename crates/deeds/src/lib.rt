@@ -1,4 +1,4 @@
-// What each command does to the books (document 01, "Commands").
+// What each command does to the books (PROTOCOL chapter 5).
 pub mod day;
 pub mod openings;
 pub mod sales;

@@ -15,12 +15,12 @@ use Rattle.device.specs.Carrying.{carry}
 use Rattle.device.specs.Device.{After}
 use Rattle.device.specs.declared.Given.{Given}
 
--- the bytes given back for a call, with its number
+-- PROTOCOL 2.5: the bytes given back for a call stand at the front of the lent buffer; with them its number
 abbrev pub gives : Call → Line → Books → List ℕ → List ℕ → List ℕ → List ℕ → After
 gives call l b bytes frame last buffer =
     record { given = record { line = l; books = b; number = callNumber call 0; count = length bytes }; frame = frame; last = last; buffer = sets buffer 0 bytes }
 
--- a command carried out: "the frame before" from now on, with its answer
+-- PROTOCOL 1.11: a command carried out is the frame before from now on, with its answer
 abbrev pub orders : Line → ℕ → ℕ → Carried Books → List ℕ → List ℕ → List ℕ → After
 orders l seq code k frame last buffer =
     record {
@@ -30,7 +30,7 @@ orders l seq code k frame last buffer =
       buffer = sets buffer 0 (k .answer);
     }
 
--- 0, 5 and 6, and a whole frame carried out; an order's data stands in the frame from its fourth byte on
+-- PROTOCOL 2.1: 0, 5 and 6, and a whole frame carried out; an order's data stands in the frame from its fourth byte on
 abbrev pub answering : Line → Books → Call → List ℕ → List ℕ → List ℕ → After
 answering l b Quiet frame last buffer = gives Quiet l b [] frame last buffer
 answering l b Nak frame last buffer = gives Nak l b (0x15 ∷ []) frame last buffer

@@ -1,4 +1,4 @@
--- Document 01: a whole frame carried out. "answered by the rules below, refusals 1 to 4 included".
+-- PROTOCOL 1.11: a whole frame carried out. Its command is judged and answered, one that is refused (1 to 4) too.
 use Prim.Native.Nat.{ℕ}
 use Rattle.wire.specs.Frame.{Message, answerOf, frame}
 use Rattle.wire.specs.declared.Kind.the-variants.{Answer}
@@ -13,19 +13,19 @@ use Rattle.answers.specs.Contents.{contentOf}
 use Rattle.answers.specs.Status.{statusOf}
 use Rattle.line.specs.Turns.{Carried}
 
--- "Order: .. 2, 1, 3, 4": unknown command and syntax are told before the books are asked
+-- PROTOCOL 2.2: 2 and 1 are told before the books are asked for 3 and 4
 abbrev pub deedFor : Books → Parsed → Deed
 deedFor b (Read c) = carriedOut b c
 deedFor b Syntax = refusedWith (parsedNumber Syntax) b
 deedFor b Unknown = refusedWith (parsedNumber Unknown) b
 
--- the answer to a command, with its SEQ and CMD: the data of a command done, or none, and the status after it
+-- PROTOCOL 1.2: the answer bears the SEQ and CMD of its command; 5.1, 3.1: the data of a command done, or none, and the status after it
 abbrev pub answerTo : Books → ℕ → ℕ → Deed → Message
 answerTo b seq code d = answerOf seq code (contentOf (d .shown) (b .day) (d .books)) (statusOf (d .number) (d .books))
 
 abbrev pub carriedAs : Books → ℕ → ℕ → Deed → Carried Books
 carriedAs b seq code d = record { number = d .number; books = d .books; answer = frame Answer (answerTo b seq code d) }
 
--- a command carried out on the books
+-- PROTOCOL 1.11: a command carried out on the books
 abbrev pub carry : Books → Message → Carried Books
 carry b m = carriedAs b (m .seq) (m .code) (deedFor b (parsedOf (m .code) (m .content)))

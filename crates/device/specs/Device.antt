@@ -16,7 +16,7 @@ use Rattle.line.specs.declared.Previous.the-variants.{Frame}
 use Rattle.device.specs.Carrying.{carry}
 use Rattle.device.specs.declared.Given.{Given}
 
--- what the fields and the two lent arrays say: the bytes since 01h stand in `frame`, the last answer in `last`
+-- PROTOCOL 8.3: what the fields and the two lent arrays say: the bytes since 01h stand in `frame`, the last answer in `last`
 abbrev pub stateOf : Line → Books → List ℕ → List ℕ → State Books
 stateOf l b frame last = record { place = placeOf (l .reader) frame; before = beforeOf (l .previous) last; books = b }
 
@@ -27,7 +27,7 @@ pub record After : Type 0 where
   pub last : List ℕ
   pub buffer : List ℕ
 
--- a command carried out becomes the frame before, with its answer; nothing else does
+-- PROTOCOL 1.11: a command carried out becomes the frame before, with its answer; nothing else does
 abbrev pub previousAfter : Previous → List Message → List ℕ → Previous
 previousAfter p [] answer = p
 previousAfter p (m ∷ ms) answer = Frame (m .seq) (m .code) (length answer)
@@ -36,7 +36,7 @@ abbrev pub lastAfter : List ℕ → List Message → List ℕ → List ℕ
 lastAfter last [] answer = last
 lastAfter last (m ∷ ms) answer = sets last 0 answer
 
--- a turn of the device, in its fields and in every lent byte: "Buffer bytes past the answer stay as they were; when nothing is given back, all do."
+-- PROTOCOL 2.5: a turn of the device, in its fields and in every lent byte: those behind what is given back stay as they were
 abbrev pub taken : Line → List ℕ → List ℕ → List ℕ → Turn Books → After
 taken l frame last buffer t =
     record {
@@ -51,16 +51,16 @@ taken l frame last buffer t =
       buffer = sets buffer 0 (t .gives);
     }
 
--- "7: lent buffer too short (device 217)": "everything; the byte .. is not taken"
+-- PROTOCOL 2.4: 7, the byte is not taken, and everything stays
 abbrev pub notTaken : Line → Books → List ℕ → List ℕ → List ℕ → After
 notTaken l b frame last buffer =
     record { given = record { line = l; books = b; number = 7; count = 0 }; frame = frame; last = last; buffer = buffer }
 
--- one byte with a buffer of this length lent: "7: lent buffer too short (device 217)" before all else
+-- PROTOCOL 2.4: one byte with a buffer of this length lent: with less than 217 bytes it is 7, before anything else is looked at
 abbrev pub lentTurn : (room : ℕ) → State Books → ℕ → Turn Books
 lentTurn room s byte = cond (ltb room 217) (record { number = 7; gives = []; carried = []; state = s }) (turn carry s byte)
 
--- one byte: "Order: 7, 5, 6, 2, 1, 3, 4 at the device"
+-- PROTOCOL 2.2: one byte: 7 first, then 5, 6, 2, 1, 3, 4
 abbrev pub afterByte : Line → Books → List ℕ → List ℕ → List ℕ → ℕ → After
 afterByte l b frame last buffer byte =
     cond (ltb (length buffer) 217) (notTaken l b frame last buffer)

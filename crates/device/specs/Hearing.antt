@@ -1,4 +1,4 @@
--- Bytes of a lent part, heard up to and including the first that asks for something, or to its end: one call of `hear`.
+-- DECISIONS 54: bytes of a lent part, heard up to and including the first that asks for something, or to its end: one call of `hear`.
 use Prim.Native.Nat.{ℕ, _+_}
 use mathlib.Core.Bool.{cond}
 use mathlib.Core.List.{List, [], _∷_}
@@ -41,7 +41,7 @@ hearing l b frame last buffer (x ∷ xs) =
     let call = calledOf l frame x .call in
     cond (isQuiet call) (oneMore (hearing (a .given .line) (a .given .books) (a .frame) (a .last) (a .buffer) xs)) (partOf a call 1)
 
--- with 7 before all else: no byte is taken
+-- PROTOCOL 2.4: with 7 before all else: no byte is taken
 abbrev pub afterPart : Line → Books → (frame last buffer bytes : List ℕ) → PartHeard
 afterPart l b frame last buffer bytes =
     cond (ltb (length buffer) 217) (partOf (notTaken l b frame last buffer) Quiet 0) (hearing l b frame last buffer bytes)

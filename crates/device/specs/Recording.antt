@@ -1,4 +1,4 @@
--- A recorded session: "the raw bytes the device received", heard by a fresh device that is always lent its 217 bytes.
+-- PROTOCOL 1.1: a recording, all the bytes that a fresh device heard; it is always lent its 217 bytes.
 use Prim.Native.Nat.{ℕ, _+_, _%_, min}
 use mathlib.Core.List.{List, [], _∷_, _++_}
 use lib.ListN.{length}
@@ -13,7 +13,8 @@ use Rattle.device.specs.declared.Recorded.{Recorded}
 abbrev pub recording : List ℕ → Session Books
 recording bytes = session carry (switchedOn freshBooks) bytes
 
--- a command in the list of those carried out: SEQ, CMD, the number of its data bytes, the data. There are at most 200, so that one byte holds the number.
+-- DECISIONS 32: a command in the list of those carried out: SEQ, CMD, the number of its data bytes, the data. PROTOCOL 1.2: there are at most 200, so that one
+-- byte holds the number.
 abbrev pub listed : Message → List ℕ
 listed m = m .seq ∷ m .code ∷ (length (m .content) % 256) ∷ m .content
 
@@ -21,7 +22,7 @@ abbrev pub listing : List Message → List ℕ
 listing [] = []
 listing (m ∷ ms) = listed m ++ listing ms
 
--- what is told of a session: the books at the end, and in two lent buffers, as far as they reach, all that was given back and the commands carried out
+-- DECISIONS 32: what is told of it: the books at the end, and in two lent buffers, as far as they reach, all that was given back and the commands carried out
 pub record Told : Type 0 where
   pub recorded : Recorded
   pub out : List ℕ

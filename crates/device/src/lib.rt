@@ -1,4 +1,4 @@
-// The device: a byte in; nothing, NAK or a whole answer out (document 01, "The two machines").
+// The device: a byte in; nothing, NAK or a whole answer out (PROTOCOL 1.1).
 use books::Books;
 use deeds::Deed;
 use kinds::Parsed;

@@ -1,4 +1,4 @@
--- Document 01's marked examples: the table, worked out by the definitions, is the table.
+-- The examples that are proved: the table, worked out by the definitions, is the table.
 use mathlib.Core.Path.{_≡_, refl}
 use mathlib.Core.List.{map}
 use Rattle.text.specs.Digits.{digits, number}

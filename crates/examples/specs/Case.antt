@@ -11,7 +11,7 @@ use Rattle.books.specs.declared.Books.{Books}
 use Rattle.line.specs.Turns.{State, switchedOn, session}
 use Rattle.device.specs.Carrying.{carry}
 
--- a text as bytes; \t is Tab
+-- a text as bytes, one for each character; \t is Tab
 abbrev pub bytes : string.String → List ℕ
 bytes string.[] = []
 bytes (string._∷_ c s) = code c ∷ bytes s
@@ -32,7 +32,7 @@ pub data Case : Type 0 where
   -- a fresh device hears these in turn, and these are the commands that it carries out
   talk : (number : ℕ) (exchanges : List Exchange) (done : List Listed) → Case
 
--- SEQ, CMD and data of a command; data and status of its answer
+-- PROTOCOL 1.2: SEQ, CMD and data of a command; data and status of its answer
 abbrev pub asks : ℕ → ℕ → string.String → string.String → List ℕ → Exchange
 asks seq code content answer status =
     record { hears = frame Command (commandOf seq code (bytes content)); gives = frame Answer (answerOf seq code (bytes answer) status) }

@@ -1,5 +1,5 @@
--- Document 01, "Examples; those marked (P) are proved": the table, and behind it what later requests ask to see. SEQ is hexadecimal, CMD
--- decimal, as there.
+-- The examples that are proved, under their numbers in document 01, and behind them what later requests ask to see; each cites what it is an example of. SEQ
+-- is hexadecimal, CMD decimal.
 use Prim.Native.Nat.{ℕ}
 use mathlib.Core.List.{List, [], _∷_, _++_}
 use lib.ListN.{set}
@@ -7,10 +7,11 @@ use Rattle.wire.specs.Frame.{commandOf, answerOf, frame}
 use Rattle.wire.specs.declared.Kind.the-variants.{Command, Answer}
 use Rattle.examples.specs.Case.{Case, built, talk, Exchange, asks, bytes, endsIn, marked}
 
+-- PROTOCOL 1.1: the single byte 15h
 abbrev pub NAK : List ℕ
 NAK = 0x15 ∷ []
 
--- the status bytes of a command done with no receipt open, of one done with a fiscal receipt open, and of a refusal with it open for syntax
+-- PROTOCOL 3.2, 3.3: the status bytes of a command done with no receipt open, of one done with a fiscal receipt open, and of a refusal with it open for syntax
 abbrev pub idle : List ℕ
 idle = 0x80 ∷ 0x80 ∷ 0x80 ∷ 0x80 ∷ 0x86 ∷ 0x9A ∷ []
 
@@ -20,54 +21,55 @@ fiscal = 0x80 ∷ 0x80 ∷ 0x88 ∷ 0x80 ∷ 0x86 ∷ 0x9A ∷ []
 abbrev pub syntaxError : List ℕ
 syntaxError = 0xA1 ∷ 0x80 ∷ 0x88 ∷ 0x80 ∷ 0x86 ∷ 0x9A ∷ []
 
--- case 1's bytes, with this for the last BCC byte
+-- PROTOCOL 1.6: 74 with SEQ 20h, with this for the last BCC byte
 abbrev pub status74 : ℕ → List ℕ
 status74 bcc = 0x01 ∷ 0x24 ∷ 0x20 ∷ 0x4A ∷ 0x05 ∷ 0x30 ∷ 0x30 ∷ 0x39 ∷ bcc ∷ 0x03 ∷ []
 
--- case 2's
+-- PROTOCOL 1.6: its answer
 abbrev pub answer74 : List ℕ
 answer74 =
     0x01 ∷ 0x31 ∷ 0x20 ∷ 0x4A ∷ 0x80 ∷ 0x80 ∷ 0x80 ∷ 0x80 ∷ 0x86 ∷ 0x9A ∷ 0x04
     ∷ 0x80 ∷ 0x80 ∷ 0x80 ∷ 0x80 ∷ 0x86 ∷ 0x9A ∷ 0x05 ∷ 0x30 ∷ 0x36 ∷ 0x3E ∷ 0x34 ∷ 0x03 ∷ []
 
--- 70, SEQ 20h, five leva in: all but the last byte, the first one as given; and the answer on a fresh device
+-- PROTOCOL 9.5: 70, SEQ 20h, five leva in: all but the last byte, the first one as given; and the answer on a fresh device
 abbrev pub lacking70 : ℕ → List ℕ
 lacking70 first = first ∷ 0x25 ∷ 0x20 ∷ 0x46 ∷ 0x35 ∷ 0x05 ∷ 0x30 ∷ 0x30 ∷ 0x3C ∷ 0x35 ∷ []
 
 abbrev pub answer70 : List ℕ
 answer70 = frame Answer (answerOf 0x20 70 (bytes "P,000000000500,000000000500,000000000000") idle)
 
+-- PROTOCOL 5.3: a fiscal receipt opened
 abbrev pub opens : Exchange
 opens = asks 0x20 48 "1,0000,1" "0001,0001" fiscal
 
 abbrev pub cases : List Case
 cases =
-    -- "74, SEQ 20h: `01 24 20 4A 05 30 30 39 33 03`."
+    -- PROTOCOL 1.6: the shortest command
     built 1 (commandOf 0x20 74 []) (status74 0x33)
-    -- "Its whole answer, fresh device: `01 31 20 4A 80 80 80 80 86 9A 04 80 80 80 80 86 9A 05 30 36 3E 34 03`."
+    -- PROTOCOL 1.6: a fresh device answers it
     ∷ talk 2 (record { hears = status74 0x33; gives = answer74 } ∷ []) (marked 0x20 74 ∷ [])
-    -- "Case 1 with last BCC byte 34h: NAK."
+    -- PROTOCOL 1.8: the same with 34h as its last BCC byte is a broken frame
     ∷ talk 3 (record { hears = status74 0x34; gives = NAK } ∷ []) []
-    -- "Case 1 twice: same answer twice."
+    -- PROTOCOL 1.10: twice, the second time as a repeat
     ∷ talk 3
     (record { hears = status74 0x33; gives = answer74 } ∷ record { hears = status74 0x33; gives = answer74 } ∷ [])
     (marked 0x20 74 ∷ [])
-    -- "1.99 × 0.375 = 0.75"
+    -- PROTOCOL 6.2: 1.99 × 0.375 is 0.75
     ∷ talk 4
     (opens
     ∷ asks 0x21 49 "\tB1.99*0.375" "" fiscal
     ∷ asks 0x22 51 "00" "0000000075,0000000000,0000000075,0000000000,0000000000,0000000000,0000000000,0000000000,0000000000" fiscal
     ∷ [])
     (marked 0x20 48 ∷ marked 0x21 49 ∷ marked 0x22 51 ∷ [])
-    -- "with -10 percent 0.67"
+    -- PROTOCOL 6.3: and 0.67 with 10 percent off
     ∷ talk 4
     (opens
     ∷ asks 0x21 49 "\tB1.99*0.375,-10" "" fiscal
     ∷ asks 0x22 51 "00" "0000000067,0000000000,0000000067,0000000000,0000000000,0000000000,0000000000,0000000000,0000000000" fiscal
     ∷ [])
     (marked 0x20 48 ∷ marked 0x21 49 ∷ marked 0x22 51 ∷ [])
-    -- "A receipt with that 0.67 and 12.00, both in B: subtotal `0000001267`, group B the same. 53 `Tab P20`: `R0000000733`.
-    -- After 56, on a device fresh before it: 65 with 1 gives B tax 2.12, 70 gives cash 12.67."
+    -- PROTOCOL 5.4 to 5.7: that line and 12.00, both in B, come to 12.67; paid with 20.00, 7.33 are given back. PROTOCOL 6.6, 6.7: then 65 with `1` has a tax of
+    -- 2.12 for B, and 70 has 12.67 in the drawer
     ∷ talk 5
     (opens
     ∷ asks 0x21 49 "\tB1.99*0.375,-10" "" fiscal
@@ -79,7 +81,7 @@ cases =
     ∷ asks 0x27 70 "" "P,000000001267,000000000000,000000000000" idle
     ∷ [])
     (marked 0x20 48 ∷ marked 0x21 49 ∷ marked 0x22 49 ∷ marked 0x23 51 ∷ marked 0x24 53 ∷ marked 0x25 56 ∷ marked 0x26 65 ∷ marked 0x27 70 ∷ [])
-    -- "Percent 99.00 taken, 99.01 syntax."
+    -- PROTOCOL 4.6: a PERCENT of 99.00 is taken, 99.01 is not
     ∷ talk 6
     (opens
     ∷ asks 0x21 49 "\tA1.00,99.00" "" fiscal
@@ -87,7 +89,7 @@ cases =
     ∷ asks 0x23 51 "00" "0000000199,0000000199,0000000000,0000000000,0000000000,0000000000,0000000000,0000000000,0000000000" fiscal
     ∷ [])
     (marked 0x20 48 ∷ marked 0x21 49 ∷ marked 0x22 49 ∷ marked 0x23 51 ∷ [])
-    -- "ETX replaced by 01h, then the same frame whole: done once."
+    -- PROTOCOL 1.9: the last byte arrives as 01h, then the command is sent again: it is carried out once
     ∷ talk 8
     (opens
     ∷ record { hears = endsIn 0x01 (frame Command (commandOf 0x21 49 (bytes "\tB12.00"))); gives = NAK }
@@ -95,8 +97,8 @@ cases =
     ∷ asks 0x22 51 "00" "0000001200,0000000000,0000001200,0000000000,0000000000,0000000000,0000000000,0000000000,0000000000" fiscal
     ∷ [])
     (marked 0x20 48 ∷ marked 0x21 49 ∷ marked 0x22 51 ∷ [])
-    -- Request 2026-11, "the try that lacks only its last byte when the next one's first byte has become 03h": of the same command, which is
-    -- then carried out, and of the next one, when it is a repeat. The five leva are in the drawer once.
+    -- PROTOCOL 9.5, request 2026-11: a frame that lacks only its last byte is ended by the next try: of the same command, which is then carried out, and of the
+    -- next one, when it is a repeat. The five leva are in the drawer once.
     ∷ talk 202611
     (record { hears = lacking70 0x01; gives = [] }
     ∷ record { hears = lacking70 0x03 ++ 0x03 ∷ []; gives = answer70 }

@@ -1,4 +1,4 @@
--- Every field an answer shows, within the digits that document 01 gives it.
+-- PROTOCOL 8.2: every field that an answer shows, within its digits.
 use Prim.Native.Nat.{ℕ, _^_, _<_}
 use mathlib.Core.Bool.{Bool, true}
 use lib.Dec.{ltb}
@@ -12,7 +12,7 @@ use Rattle.books.specs.declared.Shown.{Shown}
 use Rattle.books.specs.declared.Shown.the-variants as shown
 use Rattle.history.specs.Entries.{ofPayment}
 
--- "sums of a receipt 10 digits, day, service and cash sums 12, counters 4"; 69: "closings made so far (4 digits) and FM in 17 digits"
+-- PROTOCOL 4.9: 10 digits for sums of a receipt; 12 for day sums, taxes, cash and service sums; 4 for counters and closings; 17 for FM
 pub record InDigits (b : Books) : Type 0 where
   pub total : b .receipt .total < 10 ^ 10
   pub groups : (g : ℕ) → g < 8 → at (b .receipt .groups) g < 10 ^ 10
@@ -26,7 +26,7 @@ pub record InDigits (b : Books) : Type 0 where
   pub closings : b .memory .closings < 10 ^ 4
   pub memory : b .memory .total < 10 ^ 17
 
--- 53: "`D` and the rest, or `R` and the change", 10 digits too
+-- PROTOCOL 4.9: what is left to pay, and change, 10 digits too
 abbrev pub leftOf : Shown → ℕ
 leftOf shown.Nothing = 0
 leftOf shown.All = 0
@@ -40,7 +40,7 @@ leftOf shown.InDrawer = 0
 leftOf shown.Status = 0
 leftOf shown.Rates = 0
 
--- the amount given is a PRICE, as every command read from data has it
+-- PROTOCOL 5.6, 4.2: the amount has ten digits of stotinki at most, as every PRICE has, and so that of every command read from data
 abbrev pub isPrice : Tender → Bool
 isPrice Rest = true
 isPrice (Amount n) = ltb n 10000000000

@@ -1,4 +1,4 @@
--- The commands a device has carried out, each with its reply: what the figures of the history are told from.
+-- PROTOCOL 1.11: the commands a device has carried out, each with its reply: what the figures of the history are told from (DECISIONS 58).
 use Prim.Native.Nat.{ℕ, zero, suc}
 use mathlib.Core.Bool.{Bool, true, false, _&&_}
 use mathlib.Core.List.{List}
@@ -22,12 +22,12 @@ pub record Entry : Type 0 where
 abbrev pub entryOf : Books → Command → Deed → Entry
 entryOf b c d = record { command = c; number = d .number; shown = contentOf (d .shown) (b .day) (d .books) }
 
--- "0 done"
+-- PROTOCOL 2.1: 0 is done
 abbrev pub isDone : ℕ → Bool
 isDone zero = true
 isDone (suc n) = false
 
--- the commands by their numbers on the paper
+-- PROTOCOL 5.1: the fourteen kinds by their codes
 abbrev pub code : Command → ℕ
 code OpenText = 38
 code CloseText = 39
@@ -44,7 +44,7 @@ code (Drawer s) = 70
 code Status = 74
 code Rates = 97
 
--- the command with this number, and done
+-- the command with this code, and done
 abbrev pub did : ℕ → Entry → Bool
 did n e = isDone (e .number) && eqb (code (e .command)) n
 

@@ -12,13 +12,13 @@ use Rattle.books.specs.declared.Books.{Books}
 use Rattle.books.specs.declared.Shown.the-variants as shown
 use Rattle.deeds.specs.declared.Deed.{Deed}
 
--- "Reply numbers", 1 to 4: "answer, no data", and all stays
+-- PROTOCOL 2.3, 5.1: 1 to 4 change nothing in the books, and the answer has no data
 pub record Unchanged (b : Books) (d : Deed) : Type 0 where
   pub books : d .books ≡ b
   pub shown : d .shown ≡ shown.Nothing
   pub number : d .number ≤ 4
 
--- 69: "Closing clears day sums, pay registers, counters, service sums, not cash."
+-- PROTOCOL 5.13: day sums, registers, All, Fiscal, In and Out are zero; cash stays
 pub record DayCleared (before after : Books) : Type 0 where
   pub day : after .day ≡ replicate 8 0
   pub registers : after .registers ≡ record { n = 0; c = 0; d = 0; b = 0 }
@@ -32,19 +32,19 @@ pub record DayCleared (before after : Books) : Type 0 where
 -- a receipt as sales and payments make it
 pub record Receipted (r : Receipt) : Type 0 where
   pub eight-groups : length (r .groups) ≡ 8
-  -- 51: "Answers total and eight groups": the one is the sum of the others
+  -- PROTOCOL 6.5: the total is the sum of the eight groups
   pub total : r .total ≡ sum (eight (at (r .groups)))
   pub not-overpaid : r .paid ≤ r .total
-  -- "fully paid by 53"
+  -- PROTOCOL 5.6: paid in full, nothing is left to pay
   pub paid-up : r .settled ≡ true → r .paid ≡ r .total
-  -- before the first 53
+  -- PROTOCOL 5.6: before the first 53 nothing is paid
   pub unpaid : r .tried ≡ false → r .paid ≡ 0
   pub unsettled : r .tried ≡ false → r .settled ≡ false
 
 pub record Reached (b : Books) : Type 0 where
-  -- every sum is within its digits
+  -- PROTOCOL 8.2: every sum is within its digits
   pub fits : sound b ≡ true
   pub receipt : Receipted (b .receipt)
   pub eight-sums : length (b .day) ≡ 8
-  -- nothing stands on a receipt that is not open
+  -- DECISIONS 25: nothing stands on a receipt that is not open
   pub blank : fiscalOpen (b .opened) ≡ false → b .receipt ≡ emptyReceipt

@@ -1,4 +1,4 @@
-// Document 01, example 7: as much as a receipt and a frame hold, and one more.
+// As much as a receipt and a frame hold, and one more (PROTOCOL 8.1, 8.2).
 use books::Books;
 use device::Given;
 use libc::STDOUT_FILENO;

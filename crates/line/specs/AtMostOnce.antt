@@ -30,7 +30,7 @@ abbrev pub allHeard : Begun → List Sent → List Message
 allHeard b [] = []
 allHeard b (c ∷ cs) = triesHeard b (c .command) (c .tries) ++ allHeard (triesLeave b (c .command) (c .tries)) cs
 
--- document 01, "Frames": "A whole frame with the SEQ and CMD of the whole frame before it is a repeat": these are left out
+-- PROTOCOL 1.10: a frame with the SEQ and CMD of the one directly before it is a repeat: these are left out
 abbrev pub newAfter : Message → List Message → List Message
 newAfter m [] = []
 newAfter m (n ∷ ns) = cond (differ m n) (n ∷ []) [] ++ newAfter n ns
@@ -49,12 +49,12 @@ abbrev pub noneLacksLast : List Sent → Bool
 noneLacksLast [] = true
 noneLacksLast (c ∷ cs) = all (λ a. not (lacksLast (c .command) a)) (c .tries) && noneLacksLast cs
 
--- those commands of which a try arrived whole
+-- PROTOCOL 9.1: those commands of which a try arrived whole
 abbrev pub arrivedWhole : List Sent → List Sent
 arrivedWhole [] = []
 arrivedWhole (c ∷ cs) = cond (any isWhole (c .tries)) (c ∷ []) [] ++ arrivedWhole cs
 
--- "neighbours differing in sequence number or code"
+-- PROTOCOL 9.6: neighbours differ in SEQ or CMD
 abbrev pub neighboursDiffer : List Sent → Bool
 neighboursDiffer [] = true
 neighboursDiffer (c ∷ cs) = differsFrom (c .command) cs && neighboursDiffer cs

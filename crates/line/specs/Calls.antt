@@ -16,24 +16,24 @@ use Rattle.line.specs.declared.Line.{Line}
 use Rattle.line.specs.declared.Previous.{Previous}
 use Rattle.line.specs.declared.Previous.the-variants.{Nothing, Frame}
 
--- the frame before, with its answer at the front of a lent array
+-- PROTOCOL 8.3: the frame before, with its answer at the front of a lent array
 abbrev pub beforeOf : Previous → List ℕ → Before
 beforeOf Nothing last = none
 beforeOf (Frame seq code count) last = was seq code (take count last)
 
--- "A whole frame with the SEQ and CMD of the whole frame before it is a repeat, whatever its data"
+-- PROTOCOL 1.10: a repeat has the SEQ and CMD of the frame before, whatever its data
 abbrev pub isRepeat : Previous → ℕ → ℕ → Bool
 isRepeat Nothing seq code = false
 isRepeat (Frame s c count) seq code = eqb s seq && eqb c code
 
--- document 01's number of each call, and its values: 0 (byte taken), 5 (broken frame), 6 (repeat); an order has the number that carrying it out gives
+-- PROTOCOL 2.1: the number of each call: 0 (byte taken), 5 (broken frame), 6 (repeat); an order has the number that carrying it out gives
 abbrev pub callNumber : Call → (carried : ℕ) → ℕ
 callNumber Quiet carried = 0
 callNumber Nak carried = 5
 callNumber Again carried = 6
 callNumber (Order seq code count) carried = carried
 
--- what reading brings asks for nothing (0), NAK (5), the last answer again (6), or is a command to carry out
+-- PROTOCOL 1.8, 1.10, 1.11: what reading brings asks for nothing (0), NAK (5), the last answer again (6), or is a command to carry out
 abbrev pub callFor : Previous → Heard → Call
 callFor p heards.Nothing = Quiet
 callFor p heards.Broken = Nak
@@ -42,7 +42,7 @@ callFor p (heards.Whole seq code count) = cond (isRepeat p seq code) Again (Orde
 abbrev pub callOf : Previous → Event → Call
 callOf p e = callFor p (heardOf e)
 
--- one byte heard on the line
+-- PROTOCOL 1.1: one byte heard on the line
 pub record Called : Type 0 where
   pub line : Line
   pub call : Call

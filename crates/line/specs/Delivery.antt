@@ -18,7 +18,7 @@ isWhole whole = true
 isWhole (replaced at byte) = false
 isWhole (cut count) = false
 
--- a command and its tries
+-- PROTOCOL 9.1: a command and its tries
 pub record Sent : Type 0 where
   pub command : Message
   pub tries : List Arrival
@@ -35,11 +35,11 @@ any test (a ∷ rest) = test a || any test rest
 abbrev pub mayCome : Sent → Bool
 mayCome c = sendable Command (c .command) && all (mayArrive (frame Command (c .command))) (c .tries)
 
--- "Each is tried one or more times with one and the same frame; .. at least one whole"
+-- PROTOCOL 9.6: at least one try of it arrives whole
 abbrev pub tried : Sent → Bool
 tried c = mayCome c && any isWhole (c .tries)
 
--- "neighbours differing in sequence number or code"
+-- PROTOCOL 9.6: neighbours differ in SEQ or CMD (1.12 says why)
 abbrev pub differ : Message → Message → Bool
 differ m n = not (eqb (m .seq) (n .seq) && eqb (m .code) (n .code))
 
@@ -47,15 +47,16 @@ abbrev pub differsFrom : Message → List Sent → Bool
 differsFrom m [] = true
 differsFrom m (c ∷ cs) = differ m (c .command)
 
+-- PROTOCOL 9.6: both, of a whole list
 abbrev pub delivery : List Sent → Bool
 delivery [] = true
 delivery (c ∷ cs) = tried c && differsFrom (c .command) cs && delivery cs
 
--- "that very list"
+-- PROTOCOL 9.6: the list of commands that was sent
 abbrev pub commands : List Sent → List Message
 commands = map (λ c. c .command)
 
--- all the bytes of the tries of one command, and of the whole list
+-- PROTOCOL 9.1: all tries of a command send the same bytes: what arrives of them, and of the whole list
 abbrev pub triesArriving : List ℕ → List Arrival → List ℕ
 triesArriving sent [] = []
 triesArriving sent (a ∷ rest) = arriving sent a ++ triesArriving sent rest
@@ -64,7 +65,7 @@ abbrev pub allArriving : List Sent → List ℕ
 allArriving [] = []
 allArriving (c ∷ cs) = triesArriving (frame Command (c .command)) (c .tries) ++ allArriving cs
 
--- what all the tries of one command leave begun
+-- PROTOCOL 9.2: what all the tries of one command leave begun
 abbrev pub triesLeave : Begun → Message → List Arrival → Begun
 triesLeave b m [] = b
 triesLeave b m (a ∷ rest) = triesLeave (leaves Command b m a) m rest
@@ -89,12 +90,12 @@ abbrev pub carriedIn : Message → (done now : Bool) → List Message
 carriedIn m done now = cond (not done && now) (m ∷ []) []
 
 module _ {B : Type 0} (carry : B → Message → Carried B) where
-  -- what a list of commands makes of the books, "each command once and in order"
+  -- PROTOCOL 9.6: what a list of commands makes of the books, each carried out once and in order
   abbrev pub carryAll : B → List Message → B
   carryAll books [] = books
   carryAll books (m ∷ ms) = carryAll (carry books m .books) ms
 
-  -- one try of m: what is given back during it, and whether m is carried out with it; `done` says whether it was before
+  -- PROTOCOL 9.4: one try of m: what is given back during it, and whether m is carried out with it; `done` says whether it was before
   pub record TryBrings (s : State B) (m : Message) (done : Bool) (last answer : List ℕ) (a : Arrival) (brought : List Event) : Type 0 where
     pub gives : session carry s (arriving (frame Command m) a) .gives ≡ givenBack m last answer brought
     pub carried : session carry s (arriving (frame Command m) a) .carried ≡ carriedIn m done (heardIn m brought)
@@ -116,7 +117,7 @@ module _ {B : Type 0} (carry : B → Message → Carried B) where
       TriesBring s b m false last answer (c .tries)
       × AllBring (session carry s (triesArriving (frame Command m) (c .tries)) .state) (triesLeave b m (c .tries)) (carry books m .books) answer cs
 
-  -- a try of m that is cut, and the next one, of n, whose first byte has become 03h
+  -- PROTOCOL 9.5: a try of m that is cut, and the next one, of n, whose first byte has become 03h
   abbrev pub lacking : State B → Message → ℕ → Session B
   lacking s m count = session carry s (arriving (frame Command m) (cut count))
 

@@ -1,4 +1,4 @@
--- Bytes of a lent part, heard one after the other up to and including the first that asks for something, or to the end of the part.
+-- DECISIONS 54: bytes of a lent part, heard one after the other up to and including the first that asks for something, or to the end of the part.
 use Prim.Native.Nat.{ℕ, _+_}
 use mathlib.Core.Bool.{cond}
 use mathlib.Core.List.{List, [], _∷_}

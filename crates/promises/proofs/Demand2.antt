@@ -90,7 +90,8 @@ cash-is-seen arrived a m s one is70 zero =
     ∙ ap (λ (z : State Books). z .books .drawer .cash) (sym (device-after-one freshDevice arrived a))
     ∙ any-history-agrees (arrived ++ a ∷ []) .cash
 
--- and every other figure: the open receipt, its lines, "53 done" and "paid in full", day sums, registers, service sums, counters, closings and FM
+-- and every other figure (PROTOCOL 8.3): the open receipt, its lines, whether a 53 was done and whether it is paid in full, day sums, registers, service sums,
+-- counters, closings and FM
 pub every-figure-follows : (arrived : List LentByte) → Agrees (entriesOf arrived) (booksAfter arrived)
 every-figure-follows = any-history-agrees
 

@@ -1,4 +1,4 @@
--- Demand 1 at the device. Document 01, "Reply numbers", row by row: what each row means, what is given back, what stays, and every byte of the lent buffer.
+-- Demand 1 at the device. The table of PROTOCOL 2.1, row by row: what each row means, what is given back, what stays, and every byte of the lent buffer.
 use Prim.Native.Nat.{ℕ, _≤_, _<_}
 use mathlib.Core.Path.{_≡_}
 use mathlib.Core.Bool.{true, false}
@@ -18,7 +18,8 @@ use Rattle.deeds.specs.Reasons.{three, four}
 use Rattle.deeds.specs.Effects.{effect, shows}
 use Rattle.line.specs.Turns.{was, State, repeats, lastAnswer}
 
--- what comes from the device for one byte: its reply number, how many bytes are given back and which, the lent buffer and the device afterwards
+-- PROTOCOL 1.1, 2.1: what comes from the device for one byte: its reply number, how many bytes are given back and which, the lent buffer and the device
+-- afterwards
 pub record FromDevice : Type 0 where
   pub number : ℕ
   pub count : ℕ
@@ -26,66 +27,67 @@ pub record FromDevice : Type 0 where
   pub buffer : List ℕ
   pub device : State Books
 
--- "Buffer bytes past the answer stay as they were; when nothing is given back, all do."
+-- PROTOCOL 2.5: what is given back stands at the front of the lent buffer, and the bytes behind it stay as they were
 abbrev pub tells : ℕ → List ℕ → List ℕ → State Books → FromDevice
 tells number bytes buffer after = record { number = number; count = length bytes; bytes = bytes; buffer = sets buffer 0 bytes; device = after }
 
--- what the byte is to the frame that is being read, and where reading stands behind it
+-- PROTOCOL 1.7: what the byte is to the frame that is being read, and where reading stands behind it
 abbrev pub reads : State Books → ℕ → Read
 reads s byte = read Command (s .place) byte
 
--- the reading place moved, and nothing else
+-- PROTOCOL 2.1: all but where reading stands is as it was
 abbrev pub moved : State Books → ℕ → State Books
 moved s byte = record { place = reads s byte .place; before = s .before; books = s .books }
 
--- "Numbers 1 to 4 still become 'the frame before' with its answer", and a command done does; these are the books from then on
+-- PROTOCOL 1.11: a command done, and one refused (1 to 4), becomes the frame before, with its answer; these are the books from then on
 abbrev pub remembers : State Books → ℕ → Message → List ℕ → Books → State Books
 remembers s byte m answer b = record { place = reads s byte .place; before = was (m .seq) (m .code) answer; books = b }
 
--- with 217 bytes lent, a whole frame that is no repeat
+-- PROTOCOL 2.4, 1.11: with 217 bytes lent, a whole frame that is no repeat
 pub record NewFrame (s : State Books) (buffer : List ℕ) (byte : ℕ) (m : Message) : Type 0 where
   pub room : 217 ≤ length buffer
   pub whole : reads s byte .event ≡ heard m
   pub new : repeats (s .before) m ≡ false
 
--- and it is read as one of the fourteen kinds
+-- PROTOCOL 5.1: and it is read as one of the fourteen kinds
 pub record NewCommand (s : State Books) (buffer : List ℕ) (byte : ℕ) (m : Message) (c : kinds.Command) : Type 0 where
   pub frame : NewFrame s buffer byte m
   pub kind : parsedOf (m .code) (m .content) ≡ parsed.Read c
 
--- the answer to a command, with its SEQ and CMD: two status bytes tell the verdict, the other four the books behind it. Bit k of a status byte counts 2 to the
--- power of k and "Bit 7 is always 1": 0.0 is 01h, 0.1 02h, 0.5 20h; 1.0 01h, 1.1 02h.
+-- PROTOCOL 1.2, 3.2, 3.3: the answer to a command, with its SEQ and CMD: two status bytes tell the verdict, the other four the books behind it. Bit k of a
+-- status byte counts 2 to the power of k, and bit 7 is 1 in all of them (3.1): bit 0.0 is 01h, 0.1 02h, 0.5 20h; 1.0 01h, 1.1 02h.
 abbrev pub answerWith : Message → List ℕ → (first second : ℕ) → Books → List ℕ
 answerWith m content first second b =
     frame Answer
     (answerOf (m .seq) (m .code) content (first ∷ second ∷ receipts (b .opened) ∷ 0x80 ∷ memories (b .memory .closings) ∷ 0x9A ∷ []))
 
--- of a command done: what it shows, after its effect
+-- PROTOCOL 5.1: of a command done: what it shows, after its effect
 abbrev pub doneWith : Books → Message → kinds.Command → List ℕ
 doneWith b m c = answerWith m (contentOf (shows b c) (b .day) (effect b c)) 0x80 0x80 (effect b c)
 
+-- PROTOCOL 2.1, at the device
 pub data ByDevice (s : State Books) (buffer : List ℕ) (byte : ℕ) : FromDevice → Type 0 where
-  -- 0 "byte taken": "nothing"; all stays but the reading place
+  -- 0, a byte taken: nothing is given back; all but where reading stands is as it was
   row-0-taken : 217 ≤ length buffer → reads s byte .event ≡ nothing → ByDevice s buffer byte (tells 0 [] buffer (moved s byte))
-  -- 0 "done": no reason for 3 and none for 4; "answer"; "as the command says", its effect
+  -- 0, done: no reason for 3 and none for 4; an answer, with verdict 80 80 (3.2); what changes is the command's effect
   row-0-done : (m : Message) (c : kinds.Command) → NewCommand s buffer byte m c → three (s .books) c ≡ false → four (s .books) c ≡ false
       → ByDevice s buffer byte (tells 0 (doneWith (s .books) m c) buffer (remembers s byte m (doneWith (s .books) m c) (effect (s .books) c)))
-  -- 1 "syntax": "answer, no data, status 0.0 and 0.5"; "receipt, day, cash", and "counters, closings and all else stay"
+  -- 1, syntax: an answer with no data and verdict A1 80 (3.2); the books stay, counters and closings too (2.3)
   row-1 : (m : Message) → NewFrame s buffer byte m → parsedOf (m .code) (m .content) ≡ parsed.Syntax
       → ByDevice s buffer byte (tells 1 (answerWith m [] 0xA1 0x80 (s .books)) buffer (remembers s byte m (answerWith m [] 0xA1 0x80 (s .books)) (s .books)))
-  -- 2 "unknown command": "same, 0.1 and 0.5"
+  -- 2, unknown command: the same with verdict A2 80
   row-2 : (m : Message) → NewFrame s buffer byte m → parsedOf (m .code) (m .content) ≡ parsed.Unknown
       → ByDevice s buffer byte (tells 2 (answerWith m [] 0xA2 0x80 (s .books)) buffer (remembers s byte m (answerWith m [] 0xA2 0x80 (s .books)) (s .books)))
-  -- 3 "not permitted now": a reason for 3; "same, 1.1 and 0.5"
+  -- 3, not permitted now: a reason for 3; the same with verdict A0 82
   row-3 : (m : Message) (c : kinds.Command) → NewCommand s buffer byte m c → three (s .books) c ≡ true
       → ByDevice s buffer byte (tells 3 (answerWith m [] 0xA0 0x82 (s .books)) buffer (remembers s byte m (answerWith m [] 0xA0 0x82 (s .books)) (s .books)))
-  -- 4 "overflow": no reason for 3 and one for 4; "same, 1.0, 1.1 and 0.5"
+  -- 4, overflow: no reason for 3 and one for 4; the same with verdict A0 83
   row-4 : (m : Message) (c : kinds.Command) → NewCommand s buffer byte m c → three (s .books) c ≡ false → four (s .books) c ≡ true
       → ByDevice s buffer byte (tells 4 (answerWith m [] 0xA0 0x83 (s .books)) buffer (remembers s byte m (answerWith m [] 0xA0 0x83 (s .books)) (s .books)))
-  -- 5 "broken frame": "NAK, one byte"; "all but the reading place"
+  -- 5, broken frame: NAK (1.8); all but where reading stands is as it was
   row-5 : 217 ≤ length buffer → reads s byte .event ≡ brokenFrame → ByDevice s buffer byte (tells 5 (0x15 ∷ []) buffer (moved s byte))
-  -- 6 "repeat": "last answer"; "all but the reading place"
+  -- 6, repeat: the last answer (1.10); all but where reading stands is as it was
   row-6 : (m : Message) → 217 ≤ length buffer → reads s byte .event ≡ heard m → repeats (s .before) m ≡ true
       → ByDevice s buffer byte (tells 6 (lastAnswer (s .before)) buffer (moved s byte))
-  -- 7 "lent buffer too short (device 217)": "nothing"; "everything; the byte .. is not taken"
+  -- 7, less than 217 bytes lent: nothing is given back; the byte is not taken, and everything stays (2.4)
   row-7 : length buffer < 217 → ByDevice s buffer byte (tells 7 [] buffer s)

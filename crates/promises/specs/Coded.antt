@@ -34,7 +34,7 @@ pub record Machines : Type 0 where
   pub sent : List ℕ
   pub answer : List ℕ
 
--- as `line::fresh`, `books::fresh` and `till::fresh` give them, with arrays of any contents
+-- PROTOCOL 8.4, 8.5: as `line::fresh`, `books::fresh` and `till::fresh` give them, with arrays of any contents
 pub record Fresh (f : Machines) : Type 0 where
   pub line : f .line ≡ record { reader = readerOf outside; previous = Nothing }
   pub books : f .books ≡ freshBooks
@@ -93,7 +93,7 @@ pub record DeviceResult (p : PartHeard) (r : FromDevice) : Type 0 where
   pub buffer : p .buffer ≡ r .buffer
   pub state : device.stateOf (p .hearing .given .line) (p .hearing .given .books) (p .frame) (p .last) ≡ r .device
 
--- how many bytes a word says are given back; of 9 its number is that of the tries
+-- PROTOCOL 7.1: how many bytes a word says are given back; of 9 its number is that of the tries
 abbrev pub givenIn : Word → ℕ
 givenIn Idle = 0
 givenIn (Waiting count) = count
@@ -112,7 +112,7 @@ pub record TillResult (f : Machines) (lent : List ℕ) (h : till.Happening) (r :
   pub buffer : sets lent 0 (turnAfter f lent h .puts) ≡ r .buffer
   pub state : benchOf (handedOn f (happens lent h)) .till ≡ r .till
 
--- a byte that breaks a frame or ends one asks for something
+-- PROTOCOL 1.1: a byte that breaks a frame or ends one asks for something: what is given back on any other is nothing
 abbrev pub isAsking : Event → Bool
 isAsking nothing = false
 isAsking brokenFrame = true
@@ -120,7 +120,7 @@ isAsking (heard m) = true
 
 -- a part of bytes by the table, with how many of them are taken and the reply to the last of these: every byte before it is taken with nothing given back
 pub data PartByTheTable (buffer : List ℕ) : Bench → List ℕ → ℕ → FromDevice → Type 0 where
-  -- 7 before all else: no byte is taken, whichever comes
+  -- PROTOCOL 2.4: 7 before all else: no byte is taken, whichever comes
   not-taken : {s : Bench} {bytes : List ℕ} {r : FromDevice} → length buffer < 217 → ((byte : ℕ) → ByTheTable s (atDevice buffer byte) (fromDevice r))
       → PartByTheTable buffer s bytes 0 r
   no-byte : {s : Bench} → 217 ≤ length buffer → PartByTheTable buffer s [] 0 (tells 0 [] buffer (s .device))

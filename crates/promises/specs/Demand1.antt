@@ -1,5 +1,5 @@
--- Demand 1: whatever comes to either end, at any moment of any history, gets exactly one reply, and that by the table of document 01, "Reply numbers":
--- `AtDevice` and `AtTill` say its rows. Both ends stay within their memory: every function of the code is proved to reach no byte outside what is lent to it.
+-- Demand 1: whatever comes to either end, at any moment of any history, gets exactly one reply, and that by the table of PROTOCOL 2.1: `AtDevice` and
+-- `AtTill` say its rows. Both ends stay within their memory: every function of the code is proved to reach no byte outside what is lent to it.
 use Prim.Native.Nat.{ℕ}
 use mathlib.Core.List.{List, [], _∷_}
 use Rattle.books.specs.Books.{freshBooks}
@@ -9,7 +9,7 @@ use Rattle.till.specs.Turns as till
 use Rattle.promises.specs.AtDevice.{FromDevice, ByDevice}
 use Rattle.promises.specs.AtTill.{FromTill, ByTill}
 
--- both ends
+-- PROTOCOL 1.1: both ends; 8.4, 8.5: fresh ones
 pub record Bench : Type 0 where
   pub device : line.State Books
   pub till : till.State
@@ -17,12 +17,12 @@ pub record Bench : Type 0 where
 abbrev pub freshBench : Bench
 freshBench = record { device = line.switchedOn freshBooks; till = till.freshState }
 
--- what comes, with the buffer that is lent for it: any length, any contents
+-- PROTOCOL 2.4: what comes, with the buffer that is lent for it: any length, any contents
 pub data Comes : Type 0 where
   atDevice : (buffer : List ℕ) (byte : ℕ) → Comes
   atTill : (buffer : List ℕ) (h : till.Happening) → Comes
 
--- what either end replies
+-- PROTOCOL 2.1: what either end replies
 pub data Outcome : Type 0 where
   fromDevice : FromDevice → Outcome
   fromTill : FromTill → Outcome
@@ -32,7 +32,7 @@ abbrev pub benchAfter : Bench → Outcome → Bench
 benchAfter s (fromDevice r) = record { device = r .device; till = s .till }
 benchAfter s (fromTill r) = record { device = s .device; till = r .till }
 
--- a reply by the table
+-- PROTOCOL 2.1: a reply by the table
 pub data ByTheTable (s : Bench) : Comes → Outcome → Type 0 where
   at-device : {buffer : List ℕ} {byte : ℕ} {r : FromDevice} → ByDevice (s .device) buffer byte r → ByTheTable s (atDevice buffer byte) (fromDevice r)
   at-till : {buffer : List ℕ} {h : till.Happening} {r : FromTill} → ByTill (s .till) buffer h r → ByTheTable s (atTill buffer h) (fromTill r)

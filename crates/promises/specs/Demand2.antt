@@ -14,12 +14,12 @@ use Rattle.history.specs.Entries.{Entry}
 use Rattle.line.specs.Turns.{State, Turn, switchedOn}
 use Rattle.device.specs.Device.{lentTurn}
 
--- a byte that arrives, and the length of the buffer lent for it
+-- PROTOCOL 2.4: a byte that arrives, and the length of the buffer lent for it
 pub record LentByte : Type 0 where
   pub room : ℕ
   pub byte : ℕ
 
--- a recording: the device "is always lent its 217 bytes"
+-- PROTOCOL 1.1: a recording, with 217 bytes lent each time
 abbrev pub alwaysLent : List ℕ → List LentByte
 alwaysLent = map (λ b. record { room = 217; byte = b })
 
@@ -44,7 +44,7 @@ abbrev pub allCarried : List (Turn Books) → List Message
 allCarried [] = []
 allCarried (t ∷ ts) = t .carried ++ allCarried ts
 
--- the data of an answer: 01h, LEN, SEQ and CMD stand before it; 04h, six status bytes, 05h, four of BCC and 03h behind it
+-- PROTOCOL 1.2: the data of an answer: 01h, LEN, SEQ and CMD stand before it; 04h, six status bytes, 05h, four of BCC and 03h behind it
 abbrev pub dataIn : List ℕ → List ℕ
 dataIn answer = take (length answer - 17) (drop 4 answer)
 
@@ -75,6 +75,6 @@ entriesOf arrived = toldBy [] (turnsOf freshDevice arrived)
 abbrev pub booksAfter : List LentByte → Books
 booksAfter arrived = deviceAfter freshDevice arrived .books
 
--- 70 answers "`P,Cash,In,Out`": Cash, "12" digits behind `P,`, read back as a number
+-- PROTOCOL 5.14: cash in an answer to 70, the 12 digits behind `P,`, read back as a number
 abbrev pub cashIn : List ℕ → ℕ
 cashIn content = number 0 (take 12 (drop 2 content))

@@ -20,12 +20,12 @@ allArrive [] (ways ∷ rest) = false
 allArrive (h ∷ hs) [] = false
 allArrive (h ∷ hs) (ways ∷ rest) = eachArrives (h .frames) ways && allArrive hs rest
 
--- "at least one whole", for each command
+-- PROTOCOL 9.6: of each command at least one arrives whole
 abbrev pub eachOneWhole : List (List Arrival) → Bool
 eachOneWhole [] = true
 eachOneWhole (ways ∷ rest) = any isWhole ways && eachOneWhole rest
 
--- the bytes that come to the device
+-- PROTOCOL 9.1: the bytes that come to the device
 abbrev pub framesArriving : List (List ℕ) → List Arrival → List ℕ
 framesArriving [] ways = []
 framesArriving (f ∷ frames) [] = []

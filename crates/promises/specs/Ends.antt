@@ -37,8 +37,8 @@ abbrev pub behindAll : Bench → List Comes → Bench
 behindAll s [] = s
 behindAll s (c ∷ cs) = behindAll (benchAfter s (outcomeOf s c)) cs
 
--- what no history of fresh ends comes to, where the reply is not the table's: books that are not sound refuse with 4 whatever they are asked, and stay; tries
--- above five count as the fifth
+-- PROTOCOL 8.7: what no history of fresh ends comes to, where the reply is not the table's: books that are not sound refuse with 4 whatever they are asked,
+-- and stay; tries above five count as the fifth
 pub data Beyond (s : Bench) : Comes → Outcome → Type 0 where
   unsound-books : {buffer : List ℕ} {byte : ℕ} (m : Message) (c : Command) → NewCommand (s .device) buffer byte m c → sound (s .device .books) ≡ false
       → Beyond s (atDevice buffer byte)

@@ -1,4 +1,4 @@
--- Document 01's own bytes, and the fault that this project is to rule out.
+-- PROTOCOL 1.6's own bytes, and the fault that this project is to rule out.
 use mathlib.Core.Path.{_≡_, refl}
 use mathlib.Core.List.{List, [], _∷_, _++_}
 use Rattle.wire.specs.Frame.{commandOf, frame}

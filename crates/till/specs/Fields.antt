@@ -1,4 +1,4 @@
--- What the till end's fields and its lent arrays say.
+-- PROTOCOL 8.5: what the till end remembers, in its fields and its lent arrays.
 use Prim.Native.Nat.{ℕ}
 use mathlib.Core.Bool.{Bool, cond, _||_}
 use mathlib.Core.List.{List}
@@ -38,13 +38,13 @@ abbrev pub heldIn : List ℕ → Pending → List ℕ
 heldIn array idle = array
 heldIn array (waits seq code bytes tries place) = keptIn array place
 
--- 7 and 8: "everything" stays
+-- PROTOCOL 2.1: at 7 and 8 everything stays
 abbrev pub refused : ℕ → Bool
 refused number = eqb number 7 || eqb number 8
 
 abbrev pub saidOf : Till → Turn → Said
 saidOf t turn = record { till = cond (refused (numberOf (turn .word))) t (tillOf (turn .state)); word = turn .word }
 
--- what the till end says of an event, by its fields and its arrays
+-- PROTOCOL 7.1: what the till end says of an event, by its fields and its arrays
 abbrev pub turnOf : Till → (frame answer buffer : List ℕ) → Happening → Turn
 turnOf t frame answer buffer h = hears (length buffer) (stateOf t frame answer) h

@@ -1,4 +1,4 @@
--- The fifth failed try of a command, told from the events: what comes before it, and what follows.
+-- PROTOCOL 7.6: the fifth failed try of a command, told from the events: what comes before it, and what follows.
 use Prim.Native.Nat.{ℕ}
 use mathlib.Core.Path.{_≡_}
 use mathlib.Core.Bool.{false, cond}
@@ -21,7 +21,7 @@ pub record FifthFails (before : List Lent) (taken : Lent) (during : List Lent) (
   pub four-failed : failures (behind freshState (before ++ taken ∷ [])) during ≡ 4
   pub one-more-fails : failures (behind freshState (before ++ taken ∷ during)) (fifth ∷ []) ≡ 1
 
--- "With no command waiting, bytes and timeouts say Idle and change nothing"; a command that is not taken says 8, and too short a buffer 7 before all else
+-- PROTOCOL 7.4: where nothing waits, bytes and timeouts say Idle; 7.2: a command that is not taken says 8; 2.4: too short a buffer says 7 before all else
 abbrev pub restWord : Happening → Word
 restWord (command code content) = NotSent
 restWord (byte b) = Idle
@@ -30,7 +30,7 @@ restWord timeout = Idle
 abbrev pub atRest : State → Lent → Turn
 atRest s l = stays (cond (ltb (l .size) 210) TooShort (restWord (l .happens))) s
 
--- event after event puts no byte and changes nothing, until the next command is taken
+-- PROTOCOL 7.4: event after event puts no byte and changes nothing, until the next command is taken
 abbrev pub restsUntilTaken : State → List Lent → Type 0
 restsUntilTaken s [] = Unit {0}
 restsUntilTaken s (l ∷ ls) = ((says s l ≡ atRest s l) × restsUntilTaken s ls) ⊎ (marksOf (l .happens) (says s l .word) ≡ took ∷ [])

@@ -14,7 +14,7 @@ pub record Handed : Type 0 where
   pub command : Message
   pub frames : List (List ℕ)
 
--- what an event hands out: "A command taken says Waiting with its frame", a failed try "Send again with the same frame", all else no frame
+-- PROTOCOL 7.1: what an event hands out: a command that says Waiting its frame, Send again the same frame, all else no frame
 pub data HandsOut : Type 0 where
   noFrame : HandsOut
   firstFrame : (code : ℕ) (content : List ℕ) (bytes : List ℕ) → HandsOut
@@ -47,7 +47,7 @@ abbrev pub handedAgainIn : State → List Lent → List (List ℕ)
 handedAgainIn s [] = []
 handedAgainIn s (l ∷ ls) = untilNext (handedAt s l) (handedAgainIn (says s l .state) ls)
 
--- the commands taken; `before` were taken before them, which says the SEQ
+-- PROTOCOL 7.3: the commands taken; `before` were taken before them, which says the SEQ
 abbrev pub withCommand : HandsOut → ℕ → (again : List (List ℕ)) (rest : ℕ → List Handed) → List Handed
 withCommand noFrame before again rest = rest before
 withCommand (firstFrame code content bytes) before again rest =
@@ -64,7 +64,7 @@ handedFrom before s (l ∷ ls) =
 abbrev pub handedIn : List Lent → List Handed
 handedIn ls = handedFrom 0 freshState ls
 
--- each command can be sent, its frames are all its own, one to five, and its SEQ is that of its place
+-- PROTOCOL 7.3, 7.6: each command can be sent, its frames are all its own, one to five, and its SEQ is that of its place
 pub record InPlace (place : ℕ) (h : Handed) : Type 0 where
   pub seq : h .command .seq ≡ seqOf place
   pub tried : Tried (h .command) (h .frames)

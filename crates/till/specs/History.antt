@@ -1,4 +1,4 @@
--- Any list of events at the till end, and what can be seen of it from outside: from the events and what was said of them, not from the state.
+-- DECISIONS 38: any list of events at the till end, and what can be seen of it from outside: from the events and what was said of them, not from the state.
 use Prim.Native.Nat.{ℕ, _+_, _%_}
 use mathlib.Core.Bool.{Bool, true, false, cond}
 use mathlib.Core.List.{List, [], _∷_, _++_}
@@ -10,7 +10,7 @@ use Rattle.till.specs.Turns.{Pending, idle, waits, State, freshState, Ha
 use Rattle.till.specs.declared.Word.{Word}
 use Rattle.till.specs.declared.Word.the-variants.{Idle, Waiting, SendAgain, Answered, Unfinished, TooShort, NotSent}
 
--- an event, with the length of the buffer lent with it
+-- PROTOCOL 2.4: an event, with the length of the buffer lent with it
 pub record Lent : Type 0 where
   pub size : ℕ
   pub happens : Happening
@@ -27,7 +27,7 @@ abbrev pub history : State → List Lent → List Turn
 history s [] = []
 history s (l ∷ ls) = says s l ∷ history (says s l .state) ls
 
--- the SEQ of a command, by how many were taken before it: "SEQ starts at 20h", "after FFh comes 20h"
+-- PROTOCOL 7.3: the SEQ of a command, by how many were taken before it: 20h for the first, and 20h again behind FFh
 abbrev pub seqOf : ℕ → ℕ
 seqOf before = 0x20 + before % 224
 
@@ -44,7 +44,7 @@ pub record Seen : Type 0 where
 abbrev pub nothingSeen : Seen
 nothingSeen = record { commands = 0; last = none }
 
--- Send again: one frame more, and bytes count from there
+-- PROTOCOL 7.6: Send again: one frame more, and bytes count from there
 abbrev pub handedAgain : List ℕ → Open → Open
 handedAgain bytes none = none
 handedAgain bytes (one m frames since) = one m (frames ++ bytes ∷ []) []
@@ -53,14 +53,14 @@ abbrev pub heardOne : ℕ → Open → Open
 heardOne b none = none
 heardOne b (one m frames since) = one m frames (since ++ b ∷ [])
 
--- Waiting: a command was taken, and its frame handed out; or a byte was heard
+-- PROTOCOL 7.1: Waiting: a command was taken, and its frame handed out; or a byte was heard
 abbrev pub onWaiting : Seen → Happening → List ℕ → Seen
 onWaiting seen (command code content) puts =
     record { commands = seen .commands + 1; last = one (commandOf (seqOf (seen .commands)) code content) (puts ∷ []) [] }
 onWaiting seen (byte b) puts = record { commands = seen .commands; last = heardOne b (seen .last) }
 onWaiting seen timeout puts = seen
 
--- Answered and Unfinished end it
+-- PROTOCOL 7.6, 7.7: Answered and Unfinished end it
 abbrev pub onWord : Seen → Happening → Word → List ℕ → Seen
 onWord seen h Idle puts = seen
 onWord seen h (Waiting count) puts = onWaiting seen h puts
@@ -81,7 +81,7 @@ watch seen s (l ∷ ls) = watch (noted seen (l .happens) (says s l)) (says s l .
 abbrev pub watched : List Lent → Seen
 watched ls = watch nothingSeen freshState ls
 
--- a command taken, and a command ended, in the order in which they were said
+-- PROTOCOL 7.2, 7.6, 7.7: a command taken, and a command ended, in the order in which they were said
 pub data Mark : Type 0 where
   took : Mark
   ended : Mark
@@ -104,7 +104,7 @@ abbrev pub marks : State → List Lent → List Mark
 marks s [] = []
 marks s (l ∷ ls) = marksOf (l .happens) (says s l .word) ++ marks (says s l .state) ls
 
--- one after the other, each command ends once and before the next is taken; `waiting` says whether one was taken and has not ended
+-- PROTOCOL 7.2: one after the other, each command ends once and before the next is taken; `waiting` says whether one was taken and has not ended
 abbrev pub alternate : (waiting : Bool) → List Mark → Bool
 alternate waiting [] = true
 alternate false (took ∷ ms) = alternate true ms
@@ -117,7 +117,7 @@ ends [] = false
 ends (took ∷ ms) = ends ms
 ends (ended ∷ ms) = true
 
--- the failed tries among the events, whatever was said of them: those that are taken while a command waits, and mean one
+-- PROTOCOL 7.5: the failed tries among the events, whatever was said of them: those that are taken while a command waits, and mean one
 abbrev pub failure : Meaning → ℕ
 failure failed = 1
 failure (goesOn place) = 0

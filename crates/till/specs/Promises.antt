@@ -11,14 +11,14 @@ use Rattle.till.specs.History.{Lent, one, Seen}
 use Rattle.till.specs.declared.Slot.{Slot}
 use Rattle.till.specs.declared.Slot.the-variants.{Free, Held}
 
--- the frames handed out for a command: one to five, and all of them its own frame
+-- PROTOCOL 7.6: the frames handed out for a command: one to five, and all of them its own frame
 pub record Tried (m : Message) (frames : List (List ℕ)) : Type 0 where
   pub can : sendable Command m ≡ true
   pub same : frames ≡ replicate (length frames) (frame Command m)
   pub some : 1 ≤ length frames
   pub few : length frames ≤ 5
 
--- Unfinished: the number given back is that of the frames handed out for the command, and it is five
+-- PROTOCOL 7.6: Unfinished: the number given back is that of the frames handed out for the command, and it is five
 pub record GivenUp (seen : Seen) (tries : ℕ) : Type 0 where
   pub waiting : Message
   pub frames : List (List ℕ)
@@ -28,8 +28,8 @@ pub record GivenUp (seen : Seen) (tries : ℕ) : Type 0 where
   pub five : tries ≡ 5
   pub same : frames ≡ replicate 5 (frame Command waiting)
 
--- Answered: with this event a whole answer with the SEQ and CMD of the command that waits stands at the end of the bytes heard since its frame was handed
--- out the last time
+-- PROTOCOL 7.7: Answered: with this event a whole answer with the SEQ and CMD of the command that waits stands at the end of the bytes heard since its frame
+-- was handed out the last time
 pub record Came (seen : Seen) (l : Lent) : Type 0 where
   pub waiting : Message
   pub frames : List (List ℕ)

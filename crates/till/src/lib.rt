@@ -1,4 +1,4 @@
-// The till end: it hands out command frames, hears the device's bytes, and gives a command up after five tries (document 01, "The till end").
+// The till end: it hands out command frames, hears the device's bytes, and gives a command up after five tries (PROTOCOL chapter 7).
 use reader::Heard;
 use reader::Reader;
 use wire::Built;

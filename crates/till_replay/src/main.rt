@@ -164,7 +164,7 @@ fn say(word: Word, buf: &[u8]) -> bool {
     io::write_all(STDOUT_FILENO, &buf[0..n])
 }
 
-// The word's place in document 01's list.
+// The word's place among the five words of PROTOCOL 7.1; 0 where there is none.
 fn place(word: Word) -> u8 {
     match word {
         Word::TooShort => 0,

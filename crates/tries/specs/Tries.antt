@@ -1,4 +1,4 @@
--- PROTOCOL 9: how a try of a frame arrives, and what reading makes of it, to the byte. One definition for commands and answers.
+-- PROTOCOL chapter 9: how a try of a frame arrives, and what reading makes of it, to the byte. One definition for commands and answers.
 use Prim.Native.Nat.{ℕ, zero, suc, _+_}
 use mathlib.Core.Bool.{Bool, true, not, cond, _&&_}
 use mathlib.Core.List.{List, [], _∷_, _++_}
@@ -15,13 +15,13 @@ pub data Arrival : Type 0 where
   replaced : (at byte : ℕ) → Arrival
   cut : (count : ℕ) → Arrival
 
--- the place is one of the frame's and the byte another than stood there; at least the last byte is lost
+-- PROTOCOL 9.1: the place is one of the frame's and the byte another than stood there; at least the last byte is lost
 abbrev pub mayArrive : List ℕ → Arrival → Bool
 mayArrive sent whole = true
 mayArrive sent (replaced at byte) = ltb at (length sent) && not (eqb byte (getD sent at 0))
 mayArrive sent (cut count) = ltb count (length sent)
 
--- the bytes that arrive: of a cut try a beginning of its frame, else as many as were sent
+-- PROTOCOL 9.1: the bytes that arrive: of a cut try a beginning of its frame, else as many as were sent
 abbrev pub arriving : List ℕ → Arrival → List ℕ
 arriving sent whole = sent
 arriving sent (replaced at byte) = set sent at byte
@@ -32,7 +32,7 @@ pub data Begun : Type 0 where
   clear : Begun
   begun : (m : Message) (count : ℕ) → Begun
 
--- what a try leaves begun. One of which nothing arrives leaves what it found; a last byte that has become 01h begins a frame.
+-- PROTOCOL 9.2: what a try leaves begun. One of which nothing arrives leaves what it found; a last byte that has become 01h begins a frame.
 abbrev pub leaves : Kind → Begun → Message → Arrival → Begun
 leaves k b m whole = clear
 leaves k b m (replaced at byte) = cond (eqb byte 0x01 && eqb (at + 1) (length (frame k m))) (begun m 1) clear
@@ -55,7 +55,7 @@ lostStartBrings k (begun n count) byte = cond (eqb byte 0x03 && eqb (count + 1) 
 abbrev pub damageBrings : ℕ → ℕ → ℕ → List Event
 damageBrings size at byte = cond (eqb byte 0x01 && (ltb 1 at && ltb (at + 1) size)) (brokenFrame ∷ brokenFrame ∷ []) (brokenFrame ∷ [])
 
--- all that a try brings: broken frames, and a message heard
+-- PROTOCOL 9.4: all that a try brings: broken frames, and a message heard
 abbrev pub brings : Kind → Begun → Message → Arrival → List Event
 brings k b m whole = startBrings b ++ heard m ∷ []
 brings k b m (replaced zero byte) = lostStartBrings k b byte

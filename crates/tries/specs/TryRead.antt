@@ -16,7 +16,7 @@ news (nothing ∷ es) = news es
 news (brokenFrame ∷ es) = brokenFrame ∷ news es
 news (heard m ∷ es) = heard m ∷ news es
 
--- where reading stands: outside, or behind those bytes of the frame
+-- PROTOCOL 9.2: where reading stands: outside, or behind those bytes of the frame
 abbrev pub standsAt : Kind → Begun → Place
 standsAt k clear = outside
 standsAt k (begun m count) = run k outside (take count (frame k m)) .place
