@@ -9,13 +9,12 @@ use books::Opened;
 use books::Shown;
 use books::parts;
 use books::rates;
-use books::sound;
 use kinds::Password;
 use receipt::Receipt;
 ghost use mathlib.Core.Path.{_≡_};
 ghost use mathlib.Core.Bool.{true};
 ghost use Rattle.books.specs.Sound.{sound};
-ghost use Rattle.deeds.specs.Deeds.{kept, isRight, full, textOpened, textClosed, textPrinted, openedBy};
+ghost use Rattle.deeds.specs.Deeds.{isRight, full, textOpened, textClosed, textPrinted, openedBy};
 
 pub fn open_text(books: Books) -> Deed
     ensures { λ r. ⌜ r ≡ textOpened books ⌝ }
@@ -76,16 +75,7 @@ pub fn is_full(books: Books) -> bool
     rates::most() <= memory.closings
 }
 
-pub fn open_fiscal(books: Books, password: Password) -> Deed
-    ensures { λ r. ⌜ r ≡ kept books (openedBy books password) ⌝ }
-{
-    if !sound::is_sound(books) {
-        return refuse(4, books);
-    }
-    open_kept(books, password)
-}
-
-fn open_kept(books: Books, password: Password) -> Deed
+pub(crate) fn open_fiscal(books: Books, password: Password) -> Deed
     requires { ⌜ sound books ≡ true ⌝ }
     ensures { λ r. ⌜ r ≡ openedBy books password ⌝ }
 {

@@ -1,5 +1,4 @@
 use mathlib.Core.Path.{sym, ap, _∙_}
-use Rattle.deeds.proofs.Judging.{kept-done}
 use Rattle.deeds.specs.Deeds.{deedOf}
 use borrow.Author.Needs.{needs}
 use Rattle.deeds.proofs.act.Statement.{statement}
@@ -99,7 +98,7 @@ returns-3 : tie.Need-returns-3
 returns-3 c = c .print-text .ensures ∙ sym (ap (deedOf (c .before .before .before .args .books)) (c .before .enum-told3 .given .1))
 
 returns-4 : tie.Need-returns-4
-returns-4 c = c .open-fiscal .ensures ∙ sym (kept-done (c .before .before .before .before .args .books) _ (c .before .before .before .before .pre)) ∙ sym (ap (deedOf (c .before .before .before .before .args .books)) (c .before .before .command .given .1))
+returns-4 c = c .open-fiscal .ensures ∙ sym (ap (deedOf (c .before .before .before .before .args .books)) (c .before .before .command .given .1))
 
 returns-5 : tie.Need-returns-5
 returns-5 c = c .sell .ensures ∙ sym (ap (deedOf (c .before .before .before .before .args .books)) (c .before .before .command2 .given .1))
@@ -111,7 +110,7 @@ returns-7 : tie.Need-returns-7
 returns-7 c = c .pay .ensures ∙ sym (ap (deedOf (c .before .before .before .before .args .books)) (c .before .before .command3 .given .1))
 
 returns-8 : tie.Need-returns-8
-returns-8 c = c .close .ensures ∙ sym (kept-done (c .before .before .before .args .books) _ (c .before .before .before .pre)) ∙ sym (ap (deedOf (c .before .before .before .args .books)) (c .before .enum-told5 .given .1))
+returns-8 c = c .close .ensures ∙ sym (ap (deedOf (c .before .before .before .args .books)) (c .before .enum-told5 .given .1))
 
 returns-9 : tie.Need-returns-9
 returns-9 c = c .cancel .ensures ∙ sym (ap (deedOf (c .before .before .before .args .books)) (c .before .enum-told6 .given .1))
@@ -120,7 +119,7 @@ returns-10 : tie.Need-returns-10
 returns-10 c = c .sums .ensures ∙ sym (ap (deedOf (c .before .before .before .before .args .books)) (c .before .before .command4 .given .1))
 
 returns-11 : tie.Need-returns-11
-returns-11 c = c .closing .ensures ∙ sym (kept-done (c .before .before .before .before .args .books) _ (c .before .before .before .before .pre)) ∙ sym (ap (deedOf (c .before .before .before .before .args .books)) (c .before .before .command5 .given .1))
+returns-11 c = c .closing .ensures ∙ sym (ap (deedOf (c .before .before .before .before .args .books)) (c .before .before .command5 .given .1))
 
 returns-12 : tie.Need-returns-12
 returns-12 c = c .serve .ensures ∙ sym (ap (deedOf (c .before .before .before .before .args .books)) (c .before .before .command6 .given .1))
