@@ -1,6 +1,6 @@
 -- PROTOCOL chapter 3: the six status bytes. 3.1: bit 7 is 1 in all of them; a bit that is not named is 0.
 use Prim.Native.Nat.{ℕ, _+_}
-use mathlib.Core.Bool.{Bool, true, false, cond, _||_}
+use mathlib.Core.Bool.{Bool, cond, _||_}
 use mathlib.Core.List.{List, [], _∷_}
 use lib.Dec.{leb, eqb}
 use Rattle.books.specs.Rates.{capacity}

@@ -1,6 +1,5 @@
 -- PROTOCOL 8.7, DECISIONS 57: what a command can hold, numbers as the forms of its data give them. A command with any other number is 1, before the books
 -- are asked.
-use Prim.Native.Nat.{ℕ}
 use mathlib.Core.Bool.{Bool, true, _&&_}
 use lib.Dec.{ltb}
 use Rattle.kinds.specs.declared.Command.{Command}

@@ -12,13 +12,12 @@ use Rattle.wire.specs.Frame.{Message}
 use Rattle.wire.specs.declared.Kind.the-variants.{Command}
 use Rattle.reader.specs.Reading.{outside}
 use Rattle.reader.specs.Fields.{placeOf, readerOf}
-use Rattle.reader.proofs.Running.{bytesOf}
 use Rattle.reader.proofs.Holding.{Underway}
 use Rattle.books.specs.Books.{freshBooks}
 use Rattle.books.specs.declared.Books.{Books}
 use Rattle.line.specs.Turns.{Session, session}
 use Rattle.line.specs.declared.Call.{Call}
-use Rattle.line.specs.declared.Call.the-variants.{Quiet, Nak, Again, Order}
+use Rattle.line.specs.declared.Call.the-variants.{Order}
 use Rattle.line.specs.declared.Line.{Line}
 use Rattle.line.specs.declared.Previous.the-variants.{Nothing}
 use Rattle.device.specs.Carrying.{carry}

@@ -2,7 +2,7 @@
 use mathlib.Core.Path.{_≡_, refl, sym, ap, _∙_, subst}
 use mathlib.Core.Bool.{Bool, true, false, cond}
 use mathlib.Core.List.{List, [], _∷_, _++_, append-nil}
-use Prim.Native.Nat.{ℕ, suc, _+_, _≤_, _<_}
+use Prim.Native.Nat.{ℕ, _+_, _≤_, _<_}
 use native.Mathlib.Numerals.{add-one}
 use native.Mathlib.Omega.{arith}
 use lib.ListN.{length, take, drop}
@@ -20,14 +20,14 @@ use Rattle.line.specs.Turns.{Before, was, State, Turn, turn, onEvent, Session, 
 use Rattle.line.specs.Calls.{beforeOf, isRepeat, isQuiet, callOf, calledOf}
 use Rattle.line.specs.Listening.{frameAfter, listenedTo, frameBehind}
 use Rattle.line.specs.declared.Call.{Call}
-use Rattle.line.specs.declared.Call.the-variants.{Quiet, Nak, Again, Order}
+use Rattle.line.specs.declared.Call.the-variants.{Quiet, Again, Order}
 use Rattle.line.specs.declared.Line.{Line}
 use Rattle.line.specs.declared.Listened.{Listened}
 use Rattle.device.specs.Carrying.{carry}
 use Rattle.device.specs.Device.{After, stateOf, taken, notTaken, previousAfter, lastAfter}
 use Rattle.device.specs.Recording.{listed, listing}
 use Rattle.device.specs.Answering.{answering}
-use Rattle.device.specs.Hearing.{PartHeard, partOf, oneMore, unmoved, hearing, afterPart}
+use Rattle.device.specs.Hearing.{PartHeard, partOf, oneMore, hearing, afterPart}
 use Rattle.device.specs.Private.{listedCall}
 use Rattle.device.specs.declared.Given.{Given}
 use Rattle.device.proofs.Working.{front-stands}

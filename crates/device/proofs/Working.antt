@@ -177,6 +177,3 @@ module _ (l : Line) (b : Books) (call : Call) (frame last buffer : List ℕ) whe
 pub again-few : (p : Previous) (last : List ℕ) → length last ≡ 217 → length (lastAnswer (beforeOf p last)) ≤ 217
 again-few Nothing last h = omega arith
 again-few (Frame s c n) last h = omega (arith, length-take n last, h)
-
-pub same-long : (l after bytes : List ℕ) → after ≡ sets l 0 bytes → length after ≡ length l
-same-long l after bytes e = ap length e ∙ length-sets l 0 bytes

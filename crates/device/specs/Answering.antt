@@ -13,7 +13,6 @@ use Rattle.line.specs.declared.Line.{Line}
 use Rattle.line.specs.declared.Previous.the-variants.{Frame}
 use Rattle.device.specs.Carrying.{carry}
 use Rattle.device.specs.Device.{After}
-use Rattle.device.specs.declared.Given.{Given}
 
 -- PROTOCOL 2.5: the bytes given back for a call stand at the front of the lent buffer; with them its number
 abbrev pub gives : Call → Line → Books → List ℕ → List ℕ → List ℕ → List ℕ → After

@@ -59,9 +59,3 @@ notTaken l b frame last buffer =
 -- PROTOCOL 2.4: one byte with a buffer of this length lent: with less than 217 bytes it is 7, before anything else is looked at
 abbrev pub lentTurn : (room : ℕ) → State Books → ℕ → Turn Books
 lentTurn room s byte = cond (ltb room 217) (record { number = 7; gives = []; carried = []; state = s }) (turn carry s byte)
-
--- PROTOCOL 2.2: one byte: 7 first, then 5, 6, 2, 1, 3, 4
-abbrev pub afterByte : Line → Books → List ℕ → List ℕ → List ℕ → ℕ → After
-afterByte l b frame last buffer byte =
-    cond (ltb (length buffer) 217) (notTaken l b frame last buffer)
-    (taken l frame last buffer (turn carry (stateOf l b frame last) byte))

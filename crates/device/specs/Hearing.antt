@@ -12,7 +12,6 @@ use Rattle.line.specs.declared.Call.the-variants.{Quiet}
 use Rattle.line.specs.declared.Line.{Line}
 use Rattle.device.specs.Carrying.{carry}
 use Rattle.device.specs.Device.{After, stateOf, taken, notTaken}
-use Rattle.device.specs.declared.Given.{Given}
 use Rattle.device.specs.declared.Hearing.{Hearing}
 
 -- the device and the lent bytes after a call: `hearing` has what the last byte taken brought, and how many bytes were taken

@@ -1,22 +1,16 @@
--- What a call makes of the device: the second half of a byte, which alone moves the books. No promise to a caller rests on it.
+-- What the private functions of the device ask of each other and give back. No promise to a caller rests on it.
 use Prim.Native.Nat.{ℕ, _≤_}
 use mathlib.Core.Path.{_≡_}
-use mathlib.Core.Bool.{Bool, true, false}
-use mathlib.Core.List.{List, [], _∷_}
+use mathlib.Core.List.{List, []}
 use lib.ListN.{length, take, drop}
-use lib.Seq.{sets}
 use Rattle.wire.specs.Frame.{commandOf}
 use Rattle.wire.specs.declared.Built.{Built}
 use Rattle.wire.specs.declared.Built.the-variants as built
 use Rattle.books.specs.declared.Books.{Books}
-use Rattle.line.specs.Turns.{Carried, lastAnswer}
-use Rattle.line.specs.Calls.{beforeOf}
+use Rattle.line.specs.Turns.{Carried}
 use Rattle.line.specs.declared.Call.{Call}
 use Rattle.line.specs.declared.Call.the-variants.{Quiet, Nak, Again, Order}
-use Rattle.line.specs.declared.Line.{Line}
 use Rattle.line.specs.declared.Previous.the-variants.{Frame}
-use Rattle.device.specs.Carrying.{carry}
-use Rattle.device.specs.Device.{After}
 use Rattle.device.specs.Recording.{listed}
 use Rattle.device.specs.declared.Work.{Work}
 

@@ -10,15 +10,14 @@ use lib.ListN.{length, getD, drop, drop-of-length-le}
 use lib.Seq.{drop-cons}
 use borrow.Author.Tests.{eq-eqb, ne-eqb}
 use Rattle.wire.specs.declared.Kind.the-variants.{Command}
-use Rattle.reader.specs.Reading.{Read, read}
-use Rattle.reader.specs.Fields.{placeOf, keptIn, takenOf, heardOf}
+use Rattle.reader.specs.Reading.{read}
+use Rattle.reader.specs.Fields.{placeOf, takenOf}
 use Rattle.reader.specs.declared.Heard.{Heard}
 use Rattle.reader.specs.declared.Heard.the-variants as heards
 use Rattle.reader.specs.declared.Reader.{Reader}
 use Rattle.reader.specs.declared.Taken.{Taken}
 use Rattle.line.specs.Calls.{callFor, isRepeat, isQuiet, isSilent, Called, calledOf}
 use Rattle.line.specs.Listening.{frameAfter, listenedTo, frameBehind}
-use Rattle.line.specs.declared.Call.{Call}
 use Rattle.line.specs.declared.Call.the-variants.{Quiet, Again, Order}
 use Rattle.line.specs.declared.Line.{Line}
 use Rattle.line.specs.declared.Listened.{Listened}

@@ -10,7 +10,7 @@ use lib.Seq.{length-take-le, take-take}
 use borrow.Author.Tests.{le-leb, lt-leb, lt-ltb, le-ltb, ltb-true}
 use Rattle.wire.specs.Bytes.{every}
 use Rattle.wire.proofs.Suits.{both}
-use Rattle.figures.specs.Parts.{firstAt, has, upTo, past}
+use Rattle.figures.specs.Parts.{firstAt, has, upTo}
 use Rattle.lines.specs.Texts.{tab, lineFeed, isText, areTexts, beginsWithTexts, restOf, onlyLine, firstLine, secondLine}
 use Rattle.figures.proofs.Cutting.{place-within, drop-take}
 use Rattle.lines.specs.declared.Found.{Found}
@@ -103,9 +103,6 @@ module _ (s : List ℕ) (next : ℕ) (rest : restOf s ≡ At next) where
   rest-within =
       let inside : firstAt tab s < length s = ltb-true (firstAt tab s) (length s) (both (has tab s) (areTexts (upTo tab s)) (begun s next rest .0) .0) in
       omega (arith, tab-at)
-
-  pub rest-past : drop next s ≡ past tab s
-  rest-past = ap (λ k. drop k s) tab-at
 
   pub tab-length : next - 1 ≡ length (take (next - 1) s)
   tab-length = sym (length-take-le (next - 1) s (omega (arith, rest-within)))

@@ -2,7 +2,7 @@
 use mathlib.Core.Path.{_≡_, refl, sym, ap, _∙_, subst}
 use mathlib.Core.Bool.{Bool, true, false, cond}
 use mathlib.Core.List.{List, [], _∷_}
-use Prim.Native.Nat.{ℕ, _≤_, _<_}
+use Prim.Native.Nat.{ℕ, _≤_}
 use native.Mathlib.Omega.{arith}
 use lib.Dec.{ltb}
 use lib.ListN.{length}
@@ -10,10 +10,10 @@ use lib.Seq.{length-sets}
 use borrow.Author.Tests.{ltb-true, ltb-false, le-ltb}
 use Rattle.wire.specs.Frame.{Message}
 use Rattle.wire.specs.declared.Kind.the-variants.{Command}
-use Rattle.reader.specs.Reading.{Place, outside, inside, Event, nothing, brokenFrame, heard, Read, read}
-use Rattle.reader.specs.Fields.{placeOf, readerOf}
+use Rattle.reader.specs.Reading.{Place, Event, nothing, brokenFrame, heard, Read, read}
+use Rattle.reader.specs.Fields.{placeOf}
 use Rattle.reader.proofs.Holding.{Underway, underway-few, underway-read}
-use Rattle.reader.proofs.Running.{bytesOf, kept-length}
+use Rattle.reader.proofs.Running.{kept-length}
 use Rattle.books.specs.declared.Books.{Books}
 use Rattle.answers.proofs.Shown.{shown-short}
 use Rattle.command.specs.Commands.{parsedOf}

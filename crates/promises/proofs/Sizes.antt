@@ -2,12 +2,12 @@
 use mathlib.Core.Path.{_≡_, refl, sym, subst}
 use mathlib.Core.Bool.{Bool, true, false, cond}
 use mathlib.Core.List.{List, [], _∷_, _++_}
-use Prim.Native.Nat.{ℕ, _+_, _≤_, _<_}
+use Prim.Native.Nat.{ℕ, _+_, _≤_}
 use native.Mathlib.Omega.{arith}
 use lib.Dec.{eqb, ltb}
 use lib.ListN.{length, getD, take, drop, length-append, length-take}
 use borrow.Author.Tests.{ltb-false}
-use Rattle.wire.specs.Frame.{Message, commandOf, answerOf, frame, counted, bcc, total, inner, sendable}
+use Rattle.wire.specs.Frame.{commandOf, answerOf, frame, counted, bcc, total, inner, sendable}
 use Rattle.wire.specs.Places.{dataCount}
 use Rattle.wire.specs.declared.Kind.the-variants.{Command, Answer}
 use Rattle.reader.specs.Reading.{Place, outside, inside, Event, nothing, brokenFrame, heard, suits, atLast, Standing, broken, beginning, whole, goesOn, grown, message, startsAnew, readOther, read}

@@ -1,7 +1,7 @@
 -- Calls of the device until every byte is taken come to the session of these bytes.
 use mathlib.Core.Path.{_≡_, refl, sym, ap, _∙_}
 use mathlib.Core.Bool.{Bool, true, false, cond}
-use mathlib.Core.List.{List, [], _∷_, _++_, append-assoc}
+use mathlib.Core.List.{List, [], _++_, append-assoc}
 use Prim.Native.Nat.{ℕ, _≤_}
 use lib.Dec.{ltb}
 use lib.ListN.{length, take, drop}
@@ -16,9 +16,9 @@ use Rattle.device.specs.Carrying.{carry}
 use Rattle.device.specs.Device.{stateOf, notTaken}
 use Rattle.device.specs.Hearing.{PartHeard, partOf, hearing}
 use Rattle.device.specs.Recording.{recording}
-use Rattle.device.proofs.Parts.{behind, Part, part-is}
+use Rattle.device.proofs.Parts.{behind, part-is}
 use Rattle.promises.specs.Coded.{Machines, Fresh, benchOf, hear, partAfter, handedOn, HeardThrough, all-taken, one-call}
-use Rattle.promises.proofs.CodedDevice.{DeviceOk, HeardBy, device-called}
+use Rattle.promises.proofs.CodedDevice.{DeviceOk, device-called}
 use Rattle.promises.proofs.Coded.{fresh-device}
 
 abbrev stateIn : Machines → State Books

@@ -12,7 +12,7 @@ use Rattle.wire.specs.Places.{front, behindData, dataCount, shortest, longest}
 use Rattle.wire.specs.declared.Kind.{Kind}
 use Rattle.wire.specs.declared.Kind.the-variants.{Command, Answer}
 use Rattle.wire.proofs.Suits.{both, length-front}
-use Rattle.reader.specs.Reading.{Place, outside, inside, Standing, broken, beginning, whole, suits, atLast, grown, message, goesOn, startsAnew, read, readOther}
+use Rattle.reader.specs.Reading.{Place, outside, inside, broken, beginning, whole, suits, atLast, grown, message, goesOn, startsAnew, read, readOther}
 use Rattle.reader.proofs.Running.{bytesOf}
 
 -- a frame that is being read: LEN in its range, and fewer bytes behind it than it announces

@@ -9,7 +9,6 @@ use lib.ListN.{length, take, drop, length-take}
 use lib.Seq.{sets, sets-eq, take-at}
 use borrow.Author.Tests.{ltb-true, ltb-false}
 use Rattle.wire.specs.Frame.{commandOf, frame, sendable}
-use Rattle.wire.specs.Replies.{room}
 use Rattle.wire.specs.declared.Kind.the-variants.{Command, Answer}
 use Rattle.reader.specs.Reading.{Place, outside, inside}
 use Rattle.reader.specs.Fields.{placeOf, readerOf, keptIn}

@@ -1,6 +1,6 @@
 use lib.ListN.{length}
 use Rattle.device.proofs.Listening.{Head, head-start, part-here, heard-within, some-left, head-heard, head-done}
-use mathlib.Core.Path.{sym, _∙_}
+use mathlib.Core.Path.{sym}
 use Prim.Native.Nat.{_-_}
 use native.Mathlib.Omega.{arith}
 use borrow.Author.Needs.{needs}
