@@ -1,7 +1,1 @@
 pub mod Calling
-pub mod Sessions
-pub mod Delivered
-pub mod AtMostOnce
-pub mod PartOf
-pub mod Ended
-pub mod Examples

@@ -17,16 +17,18 @@ pub data Before : Type 0 where
 pub record State (B : Type 0) : Type 0 where
   pub place : Place
   pub before : Before
-  pub books : B
+  pub store : B
 
 -- PROTOCOL 8.4: a device that is switched on: reading is outside, no frame before
 abbrev pub switchedOn : {B : Type 0} → B → State B
-switchedOn books = record { place = outside; before = none; books = books }
+switchedOn store = record { place = outside; before = none; store = store }
 
--- PROTOCOL 1.11: a command carried out: its reply number, what it leaves behind, and its whole answer frame
+-- PROTOCOL 1.11: a command carried out: its reply number, what it leaves behind, and its whole answer frame. DECISIONS 62: the lead goes out before the answer
+-- and is no part of it: a repeat has none
 pub record Carried (B : Type 0) : Type 0 where
   pub number : ℕ
-  pub books : B
+  pub store : B
+  pub lead : List ℕ
   pub answer : List ℕ
 
 -- PROTOCOL 1.1: what one byte brings: the reply number, the bytes given back, the command carried out, if any, and the device afterwards
@@ -57,19 +59,19 @@ module _ {B : Type 0} (carry : B → Message → Carried B) where
   abbrev pub onWhole : State B → Place → Message → Turn B
   onWhole s next m =
       cond (repeats (s .before) m)
-      (record { number = 6; gives = lastAnswer (s .before); carried = []; state = record { place = next; before = s .before; books = s .books } })
+      (record { number = 6; gives = lastAnswer (s .before); carried = []; state = record { place = next; before = s .before; store = s .store } })
       (record {
-        number = carry (s .books) m .number;
-        gives = carry (s .books) m .answer;
+        number = carry (s .store) m .number;
+        gives = carry (s .store) m .lead ++ carry (s .store) m .answer;
         carried = m ∷ [];
-        state = record { place = next; before = was (m .seq) (m .code) (carry (s .books) m .answer); books = carry (s .books) m .books };
+        state = record { place = next; before = was (m .seq) (m .code) (carry (s .store) m .answer); store = carry (s .store) m .store };
       })
 
   -- PROTOCOL 2.1: 0, a byte taken. PROTOCOL 1.8, 1.9: 5, one NAK. Both leave all but where reading stands: a broken frame is not the frame before (1.10)
   abbrev pub onEvent : State B → Place → Event → Turn B
-  onEvent s next nothing = record { number = 0; gives = []; carried = []; state = record { place = next; before = s .before; books = s .books } }
+  onEvent s next nothing = record { number = 0; gives = []; carried = []; state = record { place = next; before = s .before; store = s .store } }
   onEvent s next brokenFrame =
-      record { number = 5; gives = 0x15 ∷ []; carried = []; state = record { place = next; before = s .before; books = s .books } }
+      record { number = 5; gives = 0x15 ∷ []; carried = []; state = record { place = next; before = s .before; store = s .store } }
   onEvent s next (heard m) = onWhole s next m
 
   -- PROTOCOL 1.1: one byte

@@ -20,12 +20,12 @@ use Rattle.books.specs.Books.{freshBooks}
 use Rattle.books.specs.declared.Books.{Books}
 use Rattle.line.specs.Turns.{Before, switchedOn, session}
 use Rattle.tries.specs.Tries.{Arrival, cut, mayArrive, arriving, Begun, clear, begun, brings}
-use Rattle.line.specs.Delivery.{isWhole, Sent, all, any, tried, differsFrom, delivery, commands, triesArriving, allArriving, givenBack, carryAll, AllBring, EndedByTheNext}
-use Rattle.line.specs.AtMostOnce.{allMayCome, allHeard, withoutRepeats, noneLacksLast, arrivedWhole, neighboursDiffer}
-use Rattle.line.proofs.Delivered.{carries-out-that-very-list, brings-for-each-try, same-bytes-same-list}
-use Rattle.line.proofs.AtMostOnce.{carries-out-what-is-heard, carries-out-those-whole}
-use Rattle.line.proofs.PartOf.{carries-out-a-part}
-use Rattle.line.proofs.Ended.{ended-by-the-next}
+use Rattle.delivery.specs.Delivery.{isWhole, Sent, all, any, tried, differsFrom, delivery, commands, triesArriving, allArriving, givenBack, carryAll, AllBring, EndedByTheNext}
+use Rattle.delivery.specs.AtMostOnce.{allMayCome, allHeard, withoutRepeats, noneLacksLast, arrivedWhole, neighboursDiffer}
+use Rattle.delivery.proofs.Delivered.{carries-out-that-very-list, brings-for-each-try, same-bytes-same-list}
+use Rattle.delivery.proofs.AtMostOnce.{carries-out-what-is-heard, carries-out-those-whole}
+use Rattle.delivery.proofs.PartOf.{carries-out-a-part}
+use Rattle.delivery.proofs.Ended.{ended-by-the-next}
 use Rattle.till.specs.History.{Lent, seqOf}
 use Rattle.till.specs.Handed.{Handed, handedIn, AllInPlace}
 use Rattle.till.proofs.Handing.{seqs-differ, frames-are-tries}

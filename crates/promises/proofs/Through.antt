@@ -11,7 +11,7 @@ use Rattle.books.specs.Books.{freshBooks}
 use Rattle.books.specs.declared.Books.{Books}
 use Rattle.line.specs.Turns.{State, Session, session, switchedOn}
 use Rattle.line.specs.declared.Call.the-variants.{Quiet}
-use Rattle.line.proofs.Sessions.{session-append}
+use Rattle.delivery.proofs.Sessions.{session-append}
 use Rattle.device.specs.Carrying.{carry}
 use Rattle.device.specs.Device.{stateOf, notTaken}
 use Rattle.device.specs.Hearing.{PartHeard, partOf, hearing}

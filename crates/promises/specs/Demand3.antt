@@ -4,7 +4,7 @@ use mathlib.Core.Bool.{Bool, true, false, _&&_}
 use mathlib.Core.List.{List, [], _∷_, _++_, map}
 use Rattle.wire.specs.Frame.{Message}
 use Rattle.tries.specs.Tries.{Arrival, mayArrive, arriving}
-use Rattle.line.specs.Delivery.{isWhole, Sent, any}
+use Rattle.delivery.specs.Delivery.{isWhole, Sent, any}
 use Rattle.till.specs.Handed.{Handed}
 
 -- PROTOCOL 9.1: each frame handed out arrives in one way, and there is one for each

@@ -8,7 +8,7 @@ use Rattle.wire.specs.Frame.{Message, frame}
 use Rattle.wire.specs.declared.Kind.the-variants.{Command}
 use Rattle.reader.specs.Reading.{Event, nothing, brokenFrame, heard}
 use Rattle.tries.specs.Tries.{Arrival, whole, replaced, cut, Begun, leaves, brings}
-use Rattle.line.specs.Delivery.{isWhole, Sent, all, any, mayCome, differ, differsFrom, triesLeave}
+use Rattle.delivery.specs.Delivery.{isWhole, Sent, all, any, mayCome, differ, differsFrom, triesLeave}
 
 -- PROTOCOL 9.1, of a whole list
 abbrev pub allMayCome : List Sent → Bool

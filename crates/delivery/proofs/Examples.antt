@@ -3,12 +3,12 @@ use mathlib.Core.Path.{_≡_, refl}
 use mathlib.Core.Bool.{true}
 use mathlib.Core.List.{List, [], _∷_}
 use Rattle.wire.specs.Frame.{Message, commandOf}
 use Rattle.line.specs.Turns.{Carried, switchedOn, session}
 use Rattle.tries.specs.Tries.{whole, replaced, cut, clear}
-use Rattle.line.specs.Delivery.{Sent, delivery, allArriving}
-use Rattle.line.specs.AtMostOnce.{allHeard, withoutRepeats}
-use Rattle.line.proofs.AtMostOnce.{carries-out-those-whole}
-use Rattle.line.proofs.Delivered.{hearsOnly, carries-out-that-very-list}
+use Rattle.delivery.specs.Delivery.{Sent, delivery, allArriving}
+use Rattle.delivery.specs.AtMostOnce.{allHeard, withoutRepeats}
+use Rattle.delivery.proofs.AtMostOnce.{carries-out-those-whole}
+use Rattle.delivery.proofs.Delivered.{hearsOnly, carries-out-that-very-list}
 
 abbrev status : Message
 status = commandOf 0x20 74 []
@@ -22,8 +22,8 @@ twice-bytes : allArriving twice
     ∷ 0x01 ∷ 0x24 ∷ 0x20 ∷ 0x4A ∷ 0x05 ∷ 0x30 ∷ 0x30 ∷ 0x39 ∷ 0x33 ∷ 0x03 ∷ []
 twice-bytes = refl
 
-pub done-once : {B : Type 0} (carry : B → Message → Carried B) (books : B) → session carry (switchedOn books) (allArriving twice) .carried ≡ status ∷ []
-done-once carry books = carries-out-that-very-list carry twice refl books .0
+pub done-once : {B : Type 0} (carry : B → Message → Carried B) (store : B) → session carry (switchedOn store) (allArriving twice) .carried ≡ status ∷ []
+done-once carry store = carries-out-that-very-list carry twice refl store .0
 
 -- two commands, repeats, cuts and damage of every kind among them; the first one's last try is ended by the second one's first
 pub there-are-longer : delivery (
@@ -60,9 +60,9 @@ damaged =
     ∷ record { command = commandOf 0x23 74 []; tries = whole ∷ [] }
     ∷ []
 
-pub those-whole : {B : Type 0} (carry : B → Message → Carried B) (books : B)
-    → session carry (switchedOn books) (allArriving damaged) .carried ≡ commandOf 0x21 74 [] ∷ commandOf 0x23 74 [] ∷ []
-those-whole carry books = carries-out-those-whole carry damaged refl refl refl books .0
+pub those-whole : {B : Type 0} (carry : B → Message → Carried B) (store : B)
+    → session carry (switchedOn store) (allArriving damaged) .carried ≡ commandOf 0x21 74 [] ∷ commandOf 0x23 74 [] ∷ []
+those-whole carry store = carries-out-those-whole carry damaged refl refl refl store .0
 
 -- a SEQ that comes again with the same CMD, all between it lost: a repeat, so that neighbours among those that arrive must differ
 lost-between : withoutRepeats (allHeard clear (

@@ -9,12 +9,12 @@ use lib.ListN.{length}
 use Rattle.wire.specs.Frame.{Message, frame}
 use Rattle.wire.specs.declared.Kind.the-variants.{Command}
 use Rattle.reader.specs.Reading.{brokenFrame, heard}
 use Rattle.line.specs.Turns.{Before, none, was, Carried, switchedOn, repeats, session}
 use Rattle.tries.specs.Tries.{Arrival, whole, replaced, cut, Begun, clear, begun, leaves, startBrings, lostStartBrings, damageBrings, brings}
-use Rattle.line.specs.Delivery.{Sent, commands, allArriving, triesLeave}
-use Rattle.line.specs.AtMostOnce.{allMayCome, messages, triesHeard, allHeard}
-use Rattle.line.proofs.Delivered.{same}
-use Rattle.line.proofs.AtMostOnce.{newBehind, same-behind, other-behind, start-silent, damage-silent, carries-out-what-is-heard}
+use Rattle.delivery.specs.Delivery.{Sent, commands, allArriving, triesLeave}
+use Rattle.delivery.specs.AtMostOnce.{allMayCome, messages, triesHeard, allHeard}
+use Rattle.delivery.proofs.Delivered.{same}
+use Rattle.delivery.proofs.AtMostOnce.{newBehind, same-behind, other-behind, start-silent, damage-silent, carries-out-what-is-heard}
 
 -- what stands begun is this command's
 abbrev OwnBegun : Message → Begun → Type 0
@@ -174,7 +174,7 @@ part-of [] b (was seq code answer) = Sublistᴰ·nil-sublist (newBegun (was seq 
 part-of (c ∷ cs) b before = early (c .command) cs (part-of cs) (c .tries) b before
 
 -- the theorem: each command at most once and in order, whatever arrives
-pub carries-out-a-part : {B : Type 0} (carry : B → Message → Carried B) (cs : List Sent) → allMayCome cs ≡ true → (books : B)
-    → Sublist (session carry (switchedOn books) (allArriving cs) .carried) (commands cs)
-carries-out-a-part carry cs e books =
-    subst (λ ms. Sublist ms (commands cs)) (sym (carries-out-what-is-heard carry cs e books .0)) ∣ part-of cs clear none ∣₁
+pub carries-out-a-part : {B : Type 0} (carry : B → Message → Carried B) (cs : List Sent) → allMayCome cs ≡ true → (store : B)
+    → Sublist (session carry (switchedOn store) (allArriving cs) .carried) (commands cs)
+carries-out-a-part carry cs e store =
+    subst (λ ms. Sublist ms (commands cs)) (sym (carries-out-what-is-heard carry cs e store .0)) ∣ part-of cs clear none ∣₁

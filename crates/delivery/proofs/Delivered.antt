@@ -11,12 +11,12 @@ use Rattle.wire.specs.Frame.{Message, frame, sendable}
 use Rattle.wire.specs.declared.Kind.the-variants.{Command}
 use Rattle.wire.proofs.Suits.{both}
 use Rattle.reader.specs.Reading.{Event, nothing, brokenFrame, heard, run}
 use Rattle.line.specs.Turns.{Before, none, was, State, Carried, Turn, Session, switchedOn, repeats, lastAnswer, session}
 use Rattle.tries.specs.Tries.{Arrival, whole, replaced, cut, mayArrive, arriving, Begun, clear, begun, leaves, startBrings, lostStartBrings, damageBrings, brings}
-use Rattle.line.specs.Delivery.{isWhole, Sent, all, any, tried, differ, differsFrom, delivery, commands, triesArriving, allArriving, triesLeave, givenBack, heardIn, carriedIn, carryAll, TriesBring, AllBring}
+use Rattle.delivery.specs.Delivery.{isWhole, Sent, all, any, tried, differ, differsFrom, delivery, commands, triesArriving, allArriving, triesLeave, givenBack, heardIn, carriedIn, carryAll, TriesBring, AllBring}
 use Rattle.tries.specs.TryRead.{news, standsAt, Fits}
 use Rattle.tries.proofs.Trying.{try-read}
-use Rattle.line.proofs.Sessions.{device, Reaction, endingAt, behind, session-append, session-news, frame-again, frame-new, reacts}
+use Rattle.delivery.proofs.Sessions.{device, Reaction, endingAt, behind, session-append, session-news, frame-again, frame-new, reacts}
 
 -- a command is its own repeat
 pub same : (m : Message) → eqb (m .seq) (m .seq) && eqb (m .code) (m .code) ≡ true
@@ -48,29 +48,29 @@ new-none (c ∷ cs) = refl
 
 module _ {B : Type 0} (carry : B → Message → Carried B) where
   -- any try, at any device: what it brings, answered
-  pub any-try : (m : Message) → sendable Command m ≡ true → (a : Arrival) → mayArrive (frame Command m) a ≡ true → (b : Begun) → Fits Command b → (before : Before) (books : B)
-      → session carry (device (standsAt Command b) before books) (arriving (frame Command m) a)
-      ≡ endingAt (standsAt Command (leaves Command b m a)) (reacts carry before books (brings Command b m a))
-  any-try m can a e b f before books =
+  pub any-try : (m : Message) → sendable Command m ≡ true → (a : Arrival) → mayArrive (frame Command m) a ≡ true → (b : Begun) → Fits Command b → (before : Before) (store : B)
+      → session carry (device (standsAt Command b) before store) (arriving (frame Command m) a)
+      ≡ endingAt (standsAt Command (leaves Command b m a)) (reacts carry before store (brings Command b m a))
+  any-try m can a e b f before store =
       let r = try-read Command m can a e b f in
       let bytes = arriving (frame Command m) a in
-      let heard-so : Reaction B = reacts carry before books (news (run Command (standsAt Command b) bytes .events)) in
-      session-news carry bytes (standsAt Command b) before books
+      let heard-so : Reaction B = reacts carry before store (news (run Command (standsAt Command b) bytes .events)) in
+      session-news carry bytes (standsAt Command b) before store
       ∙ ap (λ p. endingAt p heard-so) (r .place-is)
-      ∙ ap (λ es. endingAt (standsAt Command (leaves Command b m a)) (reacts carry before books es)) (r .news-are)
+      ∙ ap (λ es. endingAt (standsAt Command (leaves Command b m a)) (reacts carry before store es)) (r .news-are)
 
-  -- one command, from the frame before and the books that it finds; `done` says whether it was carried out
-  module _ (m : Message) (can : sendable Command m ≡ true) (first : Before) (new : repeats first m ≡ false) (books : B) where
-    abbrev answer : List ℕ
-    answer = carry books m .answer
+  -- one command, from the frame before and the store that it finds; `done` says whether it was carried out
+  module _ (m : Message) (can : sendable Command m ≡ true) (first : Before) (new : repeats first m ≡ false) (store : B) where
+    abbrev k : Carried B
+    k = carry store m
 
     abbrev beforeAt : Bool → Before
     beforeAt false = first
-    beforeAt true = was (m .seq) (m .code) answer
+    beforeAt true = was (m .seq) (m .code) (k .answer)
 
-    abbrev booksAt : Bool → B
-    booksAt false = books
-    booksAt true = carry books m .books
+    abbrev storeAt : Bool → B
+    storeAt false = store
+    storeAt true = k .store
 
     -- a frame that may be heard: the command's own, or, as long as that was not, the one before once more
     record Older (done : Bool) (n : Message) : Type 0 where
@@ -87,47 +87,47 @@ module _ {B : Type 0} (carry : B → Message → Carried B) where
     -- what such events bring
     abbrev Told : Bool → List Event → Reaction B
     Told done es = record {
-      gives = givenBack m (lastAnswer first) answer es;
+      gives = givenBack m (lastAnswer first) k done es;
       carried = carriedIn m done (heardIn m es);
       before = beforeAt (done || heardIn m es);
-      books = booksAt (done || heardIn m es);
+      store = storeAt (done || heardIn m es);
     }
 
     -- with one frame more in front, of another command or of this one
     abbrev ToldWith : (another done : Bool) → List Event → Reaction B
     ToldWith another done es = record {
-      gives = cond another (lastAnswer first) answer ++ givenBack m (lastAnswer first) answer es;
+      gives = cond another (lastAnswer first) (cond done [] (k .lead) ++ k .answer) ++ givenBack m (lastAnswer first) k (done || not another) es;
       carried = carriedIn m done (not another || heardIn m es);
       before = beforeAt (done || (not another || heardIn m es));
-      books = booksAt (done || (not another || heardIn m es));
+      store = storeAt (done || (not another || heardIn m es));
     }
 
     abbrev turnThen : List Event → Turn B → Reaction B
-    turnThen es t = behind (t .gives) (t .carried) (reacts carry (t .state .before) (t .state .books) es)
+    turnThen es t = behind (t .gives) (t .carried) (reacts carry (t .state .before) (t .state .store) es)
 
     -- the command itself is heard: carried out, or answered again
-    own : (done : Bool) (es : List Event) → reacts carry (beforeAt true) (booksAt true) es ≡ Told true es
-        → reacts carry (beforeAt done) (booksAt done) (heard m ∷ es) ≡ Told done (heard m ∷ es)
+    own : (done : Bool) (es : List Event) → reacts carry (beforeAt true) (storeAt true) es ≡ Told true es
+        → reacts carry (beforeAt done) (storeAt done) (heard m ∷ es) ≡ Told done (heard m ∷ es)
     own true es rest =
-        ap (turnThen es) (frame-again carry (beforeAt true) (booksAt true) m (same m)) ∙ ap (behind answer []) rest ∙ ap (λ z. ToldWith (not z) true es) (sym (same m))
+        ap (turnThen es) (frame-again carry (beforeAt true) (storeAt true) m (same m)) ∙ ap (behind (k .answer) []) rest ∙ ap (λ z. ToldWith (not z) true es) (sym (same m))
     own false es rest =
-        ap (turnThen es) (frame-new carry first books m new) ∙ ap (behind answer (m ∷ [])) rest ∙ ap (λ z. ToldWith (not z) false es) (sym (same m))
+        ap (turnThen es) (frame-new carry first store m new) ∙ ap (behind (k .lead ++ k .answer) (m ∷ [])) rest ∙ ap (λ z. ToldWith (not z) false es) (sym (same m))
 
     -- the frame before is heard once more
-    older : (done : Bool) (n : Message) (es : List Event) → Older done n → reacts carry (beforeAt done) (booksAt done) es ≡ Told done es
-        → reacts carry (beforeAt done) (booksAt done) (heard n ∷ es) ≡ Told done (heard n ∷ es)
+    older : (done : Bool) (n : Message) (es : List Event) → Older done n → reacts carry (beforeAt done) (storeAt done) es ≡ Told done es
+        → reacts carry (beforeAt done) (storeAt done) (heard n ∷ es) ≡ Told done (heard n ∷ es)
     older true n es o rest = absurd (false≢true (sym (o .not-yet)))
     older false n es o rest =
-        ap (turnThen es) (frame-again carry first books n (o .again)) ∙ ap (behind (lastAnswer first) []) rest ∙ ap (λ z. ToldWith z false es) (sym (o .other))
+        ap (turnThen es) (frame-again carry first store n (o .again)) ∙ ap (behind (lastAnswer first) []) rest ∙ ap (λ z. ToldWith z false es) (sym (o .other))
 
-    reacting : (es : List Event) (done : Bool) → Known done es → reacts carry (beforeAt done) (booksAt done) es ≡ Told done es
+    reacting : (es : List Event) (done : Bool) → Known done es → reacts carry (beforeAt done) (storeAt done) es ≡ Told done es
     reacting [] true h = refl
     reacting [] false h = refl
     reacting (nothing ∷ es) done h = reacting es done h
     reacting (brokenFrame ∷ es) done h = ap (behind (0x15 ∷ []) []) (reacting es done h)
     reacting (heard n ∷ es) done h =
         ⊎-elim
-        (λ c. subst (λ z. reacts carry (beforeAt done) (booksAt done) (heard z ∷ es) ≡ Told done (heard z ∷ es)) (sym (c .0)) (own done es (reacting es true (c .1))))
+        (λ c. subst (λ z. reacts carry (beforeAt done) (storeAt done) (heard z ∷ es) ≡ Told done (heard z ∷ es)) (sym (c .0)) (own done es (reacting es true (c .1))))
         (λ c. older done n es (c .0) (reacting es done (c .1)))
         h
 
@@ -178,12 +178,12 @@ module _ {B : Type 0} (carry : B → Message → Carried B) where
 
     -- the device between two tries
     abbrev at : Begun → Bool → State B
-    at b done = device (standsAt Command b) (beforeAt done) (booksAt done)
+    at b done = device (standsAt Command b) (beforeAt done) (storeAt done)
 
     one-try : (a : Arrival) → mayArrive (frame Command m) a ≡ true → (b : Begun) → Fits Command b → (done : Bool) → Ours done b
         → session carry (at b done) (arriving (frame Command m) a) ≡ endingAt (standsAt Command (leaves Command b m a)) (Told done (brings Command b m a))
     one-try a e b f done h =
-        any-try m can a e b f (beforeAt done) (booksAt done)
+        any-try m can a e b f (beforeAt done) (storeAt done)
         ∙ ap (endingAt (standsAt Command (leaves Command b m a))) (reacting (brings Command b m a) done (known a b done h))
 
     -- a whole try is heard
@@ -204,7 +204,7 @@ module _ {B : Type 0} (carry : B → Message → Carried B) where
     record Outcome (b : Begun) (done : Bool) (tries : List Arrival) : Type 0 where
       carried : session carry (at b done) (triesArriving (frame Command m) tries) .carried ≡ carriedIn m done true
       state : session carry (at b done) (triesArriving (frame Command m) tries) .state ≡ at (triesLeave b m tries) true
-      bring : TriesBring carry (at b done) b m done (lastAnswer first) answer tries
+      bring : TriesBring carry (at b done) b m done (lastAnswer first) k tries
       fits : Fits Command (triesLeave b m tries)
       left : Ours true (triesLeave b m tries)
 
@@ -229,7 +229,7 @@ module _ {B : Type 0} (carry : B → Message → Carried B) where
           state = ap (λ (z : Session B). z .state) parts ∙ ap (λ (z : State B). session carry z (triesArriving sent rest) .state) state ∙ o .state;
           bring = (
             record { gives = ap (λ (z : Session B). z .gives) now; carried = ap (λ (z : Session B). z .carried) now },
-            subst (λ (z : State B). TriesBring carry z next m (done || heardIn m brought) (lastAnswer first) answer rest) (sym state) (o .bring),
+            subst (λ (z : State B). TriesBring carry z next m (done || heardIn m brought) (lastAnswer first) k rest) (sym state) (o .bring),
           );
           fits = o .fits;
           left = o .left;
@@ -240,41 +240,41 @@ module _ {B : Type 0} (carry : B → Message → Carried B) where
   Left before cs clear = Unit {0}
   Left before cs (begun n count) = (repeats before n ≡ true) × (differsFrom n cs ≡ true)
 
-  left-ours : (c : Sent) (cs : List Sent) (can : sendable Command (c .command) ≡ true) (before : Before) (new : repeats before (c .command) ≡ false) (books : B) (b : Begun)
-      → Left before (c ∷ cs) b → Ours (c .command) can before new books false b
-  left-ours c cs can before new books clear l = tt
-  left-ours c cs can before new books (begun n count) l = inr (record { not-yet = refl; other = l .1; again = l .0 })
+  left-ours : (c : Sent) (cs : List Sent) (can : sendable Command (c .command) ≡ true) (before : Before) (new : repeats before (c .command) ≡ false) (store : B) (b : Begun)
+      → Left before (c ∷ cs) b → Ours (c .command) can before new store false b
+  left-ours c cs can before new store clear l = tt
+  left-ours c cs can before new store (begun n count) l = inr (record { not-yet = refl; other = l .1; again = l .0 })
 
-  ours-left : (m : Message) (can : sendable Command m ≡ true) (before : Before) (new : repeats before m ≡ false) (books : B) (cs : List Sent) → differsFrom m cs ≡ true → (b : Begun)
-      → Ours m can before new books true b → Left (was (m .seq) (m .code) (carry books m .answer)) cs b
-  ours-left m can before new books cs e clear o = tt
-  ours-left m can before new books cs e (begun n count) o =
+  ours-left : (m : Message) (can : sendable Command m ≡ true) (before : Before) (new : repeats before m ≡ false) (store : B) (cs : List Sent) → differsFrom m cs ≡ true → (b : Begun)
+      → Ours m can before new store true b → Left (was (m .seq) (m .code) (carry store m .answer)) cs b
+  ours-left m can before new store cs e clear o = tt
+  ours-left m can before new store cs e (begun n count) o =
       ⊎-elim
-      (λ q. subst (λ z. Left (was (m .seq) (m .code) (carry books m .answer)) cs (begun z count)) (sym q) (same m, e))
+      (λ q. subst (λ z. Left (was (m .seq) (m .code) (carry store m .answer)) cs (begun z count)) (sym q) (same m, e))
       (λ older. absurd (false≢true (sym (older .not-yet))))
       o
 
-  record Delivered (s : State B) (b : Begun) (books : B) (last : List ℕ) (cs : List Sent) : Type 0 where
+  record Delivered (s : State B) (b : Begun) (store : B) (last : List ℕ) (cs : List Sent) : Type 0 where
     carried : session carry s (allArriving cs) .carried ≡ commands cs
-    books-after : session carry s (allArriving cs) .state .books ≡ carryAll carry books (commands cs)
-    bring : AllBring carry s b books last cs
+    store-after : session carry s (allArriving cs) .state .store ≡ carryAll carry store (commands cs)
+    bring : AllBring carry s b store last cs
 
-  delivered-from : (cs : List Sent) → delivery cs ≡ true → (before : Before) → New before cs → (b : Begun) → Fits Command b → Left before cs b → (books : B)
-      → Delivered (device (standsAt Command b) before books) b books (lastAnswer before) cs
-  delivered-from [] e before new b f l books = record { carried = refl; books-after = refl; bring = tt }
-  delivered-from (c ∷ cs) e before new b f l books =
+  delivered-from : (cs : List Sent) → delivery cs ≡ true → (before : Before) → New before cs → (b : Begun) → Fits Command b → Left before cs b → (store : B)
+      → Delivered (device (standsAt Command b) before store) b store (lastAnswer before) cs
+  delivered-from [] e before new b f l store = record { carried = refl; store-after = refl; bring = tt }
+  delivered-from (c ∷ cs) e before new b f l store =
       let m = c .command in
       let sent = frame Command m in
       let two = both (tried c && differsFrom m cs) (delivery cs) e in
       let own = both (tried c) (differsFrom m cs) (two .0) in
       let may = both (sendable Command m && all (mayArrive sent) (c .tries)) (any isWhole (c .tries)) (own .0) in
       let can = both (sendable Command m) (all (mayArrive sent) (c .tries)) (may .0) in
-      let o = tries-bring m (can .0) before new books (c .tries) (can .1) b f false (left-ours c cs (can .0) before new books b l) (may .1) in
-      let answer = carry books m .answer in
+      let o = tries-bring m (can .0) before new store (c .tries) (can .1) b f false (left-ours c cs (can .0) before new store b l) (may .1) in
+      let k = carry store m in
       let next = triesLeave b m (c .tries) in
-      let rest = delivered-from cs (two .1) (was (m .seq) (m .code) answer) (new-next m answer cs (own .1)) next (o .fits)
-      (ours-left m (can .0) before new books cs (own .1) next (o .left)) (carry books m .books) in
-      let s : State B = device (standsAt Command b) before books in
+      let rest = delivered-from cs (two .1) (was (m .seq) (m .code) (k .answer)) (new-next m (k .answer) cs (own .1)) next (o .fits)
+      (ours-left m (can .0) before new store cs (own .1) next (o .left)) (carry store m .store) in
+      let s : State B = device (standsAt Command b) before store in
       let bytes = triesArriving sent (c .tries) in
       let parts = session-append carry s bytes (allArriving cs) in
       record {
@@ -282,26 +282,26 @@ module _ {B : Type 0} (carry : B → Message → Carried B) where
             ∙ ap (λ ms. ms ++ session carry (session carry s bytes .state) (allArriving cs) .carried) (o .carried)
             ∙ ap (λ (z : State B). m ∷ session carry z (allArriving cs) .carried) (o .state)
             ∙ ap (λ ms. m ∷ ms) (rest .carried);
-        books-after = ap (λ (z : Session B). z .state .books) parts ∙ ap (λ (z : State B). session carry z (allArriving cs) .state .books) (o .state) ∙ rest .books-after;
-        bring = (o .bring, subst (λ (z : State B). AllBring carry z next (carry books m .books) answer cs) (sym (o .state)) (rest .bring));
+        store-after = ap (λ (z : Session B). z .state .store) parts ∙ ap (λ (z : State B). session carry z (allArriving cs) .state .store) (o .state) ∙ rest .store-after;
+        bring = (o .bring, subst (λ (z : State B). AllBring carry z next (k .store) (k .answer) cs) (sym (o .state)) (rest .bring));
       }
 
-  delivered : (cs : List Sent) → delivery cs ≡ true → (books : B) → Delivered (switchedOn books) clear books [] cs
-  delivered cs e books = delivered-from cs e none (new-none cs) clear tt tt books
+  delivered : (cs : List Sent) → delivery cs ≡ true → (store : B) → Delivered (switchedOn store) clear store [] cs
+  delivered cs e store = delivered-from cs e none (new-none cs) clear tt tt store
 
   -- "Then the device carries out that very list, each command once and in order."
-  pub carries-out-that-very-list : (cs : List Sent) → delivery cs ≡ true → (books : B)
-      → (session carry (switchedOn books) (allArriving cs) .carried ≡ commands cs)
-      × (session carry (switchedOn books) (allArriving cs) .state .books ≡ carryAll carry books (commands cs))
-  carries-out-that-very-list cs e books = (delivered cs e books .carried, delivered cs e books .books-after)
+  pub carries-out-that-very-list : (cs : List Sent) → delivery cs ≡ true → (store : B)
+      → (session carry (switchedOn store) (allArriving cs) .carried ≡ commands cs)
+      × (session carry (switchedOn store) (allArriving cs) .state .store ≡ carryAll carry store (commands cs))
+  carries-out-that-very-list cs e store = (delivered cs e store .carried, delivered cs e store .store-after)
 
   -- what each try brings: the bytes given back, and with which try the command is carried out
-  pub brings-for-each-try : (cs : List Sent) → delivery cs ≡ true → (books : B) → AllBring carry (switchedOn books) clear books [] cs
-  brings-for-each-try cs e books = delivered cs e books .bring
+  pub brings-for-each-try : (cs : List Sent) → delivery cs ≡ true → (store : B) → AllBring carry (switchedOn store) clear store [] cs
+  brings-for-each-try cs e store = delivered cs e store .bring
 
 -- a device that does nothing but hear
 abbrev pub hearsOnly : Unit {0} → Message → Carried (Unit {0})
-hearsOnly books m = record { number = 0; books = tt; answer = [] }
+hearsOnly store m = record { number = 0; store = tt; lead = []; answer = [] }
 
 -- "So two different lists never arrive as the same bytes."
 pub same-bytes-same-list : (cs ds : List Sent) → delivery cs ≡ true → delivery ds ≡ true → allArriving cs ≡ allArriving ds → commands cs ≡ commands ds

@@ -13,14 +13,14 @@ use Rattle.wire.specs.declared.Kind.the-variants.{Command}
 use Rattle.wire.proofs.Suits.{both}
 use Rattle.reader.specs.Reading.{outside, Event, nothing, brokenFrame, heard}
 use Rattle.reader.proofs.RoundTrip.{frame-size}
 use Rattle.line.specs.Turns.{Before, none, was, State, Carried, Turn, Session, switchedOn, repeats, session}
 use Rattle.tries.specs.Tries.{Arrival, whole, replaced, cut, mayArrive, arriving, Begun, clear, begun, leaves, startBrings, lostStartBrings, damageBrings, brings}
-use Rattle.line.specs.Delivery.{isWhole, Sent, all, any, mayCome, differsFrom, commands, triesArriving, allArriving, triesLeave, carryAll}
-use Rattle.line.specs.AtMostOnce.{allMayCome, messages, triesHeard, allHeard, newAfter, withoutRepeats, lacksLast, noneLacksLast, arrivedWhole, neighboursDiffer}
+use Rattle.delivery.specs.Delivery.{isWhole, Sent, all, any, mayCome, differsFrom, commands, triesArriving, allArriving, triesLeave, carryAll}
+use Rattle.delivery.specs.AtMostOnce.{allMayCome, messages, triesHeard, allHeard, newAfter, withoutRepeats, lacksLast, noneLacksLast, arrivedWhole, neighboursDiffer}
 use Rattle.tries.specs.TryRead.{standsAt, Fits}
 use Rattle.tries.proofs.Trying.{try-read}
-use Rattle.line.proofs.Sessions.{device, Reaction, endingAt, behind, session-append, onFrame, frame-again, frame-new, reacts}
-use Rattle.line.proofs.Delivered.{same, New, new-next, new-none, any-try}
+use Rattle.delivery.proofs.Sessions.{device, Reaction, endingAt, behind, session-append, onFrame, frame-again, frame-new, reacts}
+use Rattle.delivery.proofs.Delivered.{same, New, new-next, new-none, any-try}
 
 -- what is new, behind a frame or none
 abbrev pub newBehind : Before → List Message → List Message
@@ -86,43 +86,43 @@ all-heard (c ∷ cs) b =
     ∙ ap (λ z. triesHeard b m (c .tries) ++ z) (all-heard cs next)
 
 module _ {B : Type 0} (carry : B → Message → Carried B) where
-  reacts-append : (xs ys : List Event) (before : Before) (books : B)
-      → reacts carry before books (xs ++ ys)
-      ≡ (let r = reacts carry before books xs in
-      behind (r .gives) (r .carried) (reacts carry (r .before) (r .books) ys))
-  reacts-append [] ys before books = refl
-  reacts-append (nothing ∷ xs) ys before books = reacts-append xs ys before books
-  reacts-append (brokenFrame ∷ xs) ys before books = ap (behind (0x15 ∷ []) []) (reacts-append xs ys before books)
-  reacts-append (heard m ∷ xs) ys before books =
-      let t = onFrame carry before books m in
-      let first = reacts carry (t .state .before) (t .state .books) xs in
-      let second = reacts carry (first .before) (first .books) ys in
+  reacts-append : (xs ys : List Event) (before : Before) (store : B)
+      → reacts carry before store (xs ++ ys)
+      ≡ (let r = reacts carry before store xs in
+      behind (r .gives) (r .carried) (reacts carry (r .before) (r .store) ys))
+  reacts-append [] ys before store = refl
+  reacts-append (nothing ∷ xs) ys before store = reacts-append xs ys before store
+  reacts-append (brokenFrame ∷ xs) ys before store = ap (behind (0x15 ∷ []) []) (reacts-append xs ys before store)
+  reacts-append (heard m ∷ xs) ys before store =
+      let t = onFrame carry before store m in
+      let first = reacts carry (t .state .before) (t .state .store) xs in
+      let second = reacts carry (first .before) (first .store) ys in
       let gives = append-assoc (t .gives) (first .gives) (second .gives) in
       let carried = append-assoc (t .carried) (first .carried) (second .carried) in
-      ap (behind (t .gives) (t .carried)) (reacts-append xs ys (t .state .before) (t .state .books))
-      ∙ (λ i. record { gives = sym gives i; carried = sym carried i; before = second .before; books = second .books })
+      ap (behind (t .gives) (t .carried)) (reacts-append xs ys (t .state .before) (t .state .store))
+      ∙ (λ i. record { gives = sym gives i; carried = sym carried i; before = second .before; store = second .store })
 
   -- bytes that are answered as these events, and leave that begun
   abbrev Brought : Begun → List ℕ → List Event → Begun → Type 0
   Brought b bytes es next =
-      (before : Before) (books : B) → session carry (device (standsAt Command b) before books) bytes ≡ endingAt (standsAt Command next) (reacts carry before books es)
+      (before : Before) (store : B) → session carry (device (standsAt Command b) before store) bytes ≡ endingAt (standsAt Command next) (reacts carry before store es)
 
   brought-append : (b mid next : Begun) (xs ys : List ℕ) (es fs : List Event) → Brought b xs es mid → Brought mid ys fs next → Brought b (xs ++ ys) (es ++ fs) next
-  brought-append b mid next xs ys es fs one two before books =
-      let s : State B = device (standsAt Command b) before books in
-      let r = reacts carry before books es in
+  brought-append b mid next xs ys es fs one two before store =
+      let s : State B = device (standsAt Command b) before store in
+      let r = reacts carry before store es in
       session-append carry s xs ys
       ∙ ap (λ (z : Session B). record {
         gives = z .gives ++ session carry (z .state) ys .gives;
         carried = z .carried ++ session carry (z .state) ys .carried;
         state = session carry (z .state) ys .state;
-      }) (one before books)
-      ∙ ap (λ (z : Session B). record { gives = r .gives ++ z .gives; carried = r .carried ++ z .carried; state = z .state }) (two (r .before) (r .books))
-      ∙ ap (endingAt (standsAt Command next)) (sym (reacts-append es fs before books))
+      }) (one before store)
+      ∙ ap (λ (z : Session B). record { gives = r .gives ++ z .gives; carried = r .carried ++ z .carried; state = z .state }) (two (r .before) (r .store))
+      ∙ ap (endingAt (standsAt Command next)) (sym (reacts-append es fs before store))
 
   tries-brought : (m : Message) → sendable Command m ≡ true → (tries : List Arrival) → all (mayArrive (frame Command m)) tries ≡ true → (b : Begun) → Fits Command b
       → Brought b (triesArriving (frame Command m) tries) (triesBrought b m tries) (triesLeave b m tries) × Fits Command (triesLeave b m tries)
-  tries-brought m can [] e b f = ((λ before books. refl), f)
+  tries-brought m can [] e b f = ((λ before store. refl), f)
   tries-brought m can (a ∷ rest) e b f =
       let sent = frame Command m in
       let two = both (mayArrive sent a) (all (mayArrive sent) rest) e in
@@ -134,7 +134,7 @@ module _ {B : Type 0} (carry : B → Message → Carried B) where
       )
 
   all-brought : (cs : List Sent) → allMayCome cs ≡ true → (b : Begun) → Fits Command b → Brought b (allArriving cs) (allBrought b cs) (allLeave b cs)
-  all-brought [] e b f = λ before books. refl
+  all-brought [] e b f = λ before store. refl
   all-brought (c ∷ cs) e b f =
       let m = c .command in
       let sent = frame Command m in
@@ -147,41 +147,41 @@ module _ {B : Type 0} (carry : B → Message → Carried B) where
 
   -- events are carried out as the messages among them, those left out that repeat the one before
   abbrev Carries : Reaction B → B → List Message → Type 0
-  Carries r books new = (r .carried ≡ new) × (r .books ≡ carryAll carry books new)
+  Carries r store new = (r .carried ≡ new) × (r .store ≡ carryAll carry store new)
 
   abbrev turnThen : List Event → Turn B → Reaction B
-  turnThen es t = behind (t .gives) (t .carried) (reacts carry (t .state .before) (t .state .books) es)
+  turnThen es t = behind (t .gives) (t .carried) (reacts carry (t .state .before) (t .state .store) es)
 
-  heard-new : (es : List Event) → ((before : Before) (books : B) → Carries (reacts carry before books es) books (newBehind before (messages es)))
-      → (before : Before) (books : B) (m : Message) (r : Bool) → repeats before m ≡ r
-      → Carries (turnThen es (onFrame carry before books m)) books (newBehind before (m ∷ messages es))
-  heard-new es rest before books m true e =
-      subst (λ (t : Turn B). Carries (turnThen es t) books (newBehind before (m ∷ messages es))) (sym (frame-again carry before books m e))
-      (subst (λ ms. Carries (reacts carry before books es) books ms) (sym (same-behind before m (messages es) e)) (rest before books))
-  heard-new es rest before books m false e =
-      let answer = carry books m .answer in
-      let others = rest (was (m .seq) (m .code) answer) (carry books m .books) in
-      let turned : Turn B = record { number = carry books m .number; gives = answer; carried = m ∷ []; state = device outside (was (m .seq) (m .code) answer) (carry books m .books) } in
-      subst (λ (t : Turn B). Carries (turnThen es t) books (newBehind before (m ∷ messages es))) (sym (frame-new carry before books m e))
-      (subst (λ ms. Carries (turnThen es turned) books ms) (sym (other-behind before m (messages es) answer e)) (ap (λ ms. m ∷ ms) (others .0), others .1))
+  heard-new : (es : List Event) → ((before : Before) (store : B) → Carries (reacts carry before store es) store (newBehind before (messages es)))
+      → (before : Before) (store : B) (m : Message) (r : Bool) → repeats before m ≡ r
+      → Carries (turnThen es (onFrame carry before store m)) store (newBehind before (m ∷ messages es))
+  heard-new es rest before store m true e =
+      subst (λ (t : Turn B). Carries (turnThen es t) store (newBehind before (m ∷ messages es))) (sym (frame-again carry before store m e))
+      (subst (λ ms. Carries (reacts carry before store es) store ms) (sym (same-behind before m (messages es) e)) (rest before store))
+  heard-new es rest before store m false e =
+      let answer = carry store m .answer in
+      let others = rest (was (m .seq) (m .code) answer) (carry store m .store) in
+      let turned : Turn B = record { number = carry store m .number; gives = carry store m .lead ++ answer; carried = m ∷ []; state = device outside (was (m .seq) (m .code) answer) (carry store m .store) } in
+      subst (λ (t : Turn B). Carries (turnThen es t) store (newBehind before (m ∷ messages es))) (sym (frame-new carry before store m e))
+      (subst (λ ms. Carries (turnThen es turned) store ms) (sym (other-behind before m (messages es) answer e)) (ap (λ ms. m ∷ ms) (others .0), others .1))
 
-  reacts-new : (es : List Event) (before : Before) (books : B) → Carries (reacts carry before books es) books (newBehind before (messages es))
-  reacts-new [] none books = (refl, refl)
-  reacts-new [] (was seq code answer) books = (refl, refl)
-  reacts-new (nothing ∷ es) before books = reacts-new es before books
-  reacts-new (brokenFrame ∷ es) before books = reacts-new es before books
-  reacts-new (heard m ∷ es) before books = heard-new es (reacts-new es) before books m (repeats before m) refl
+  reacts-new : (es : List Event) (before : Before) (store : B) → Carries (reacts carry before store es) store (newBehind before (messages es))
+  reacts-new [] none store = (refl, refl)
+  reacts-new [] (was seq code answer) store = (refl, refl)
+  reacts-new (nothing ∷ es) before store = reacts-new es before store
+  reacts-new (brokenFrame ∷ es) before store = reacts-new es before store
+  reacts-new (heard m ∷ es) before store = heard-new es (reacts-new es) before store m (repeats before m) refl
 
   -- the theorem: what is carried out is what is heard, told from the tries alone, repeats left out
-  pub carries-out-what-is-heard : (cs : List Sent) → allMayCome cs ≡ true → (books : B)
-      → (session carry (switchedOn books) (allArriving cs) .carried ≡ withoutRepeats (allHeard clear cs))
-      × (session carry (switchedOn books) (allArriving cs) .state .books ≡ carryAll carry books (withoutRepeats (allHeard clear cs)))
-  carries-out-what-is-heard cs e books =
-      let brought = all-brought cs e clear tt none books in
-      let new = reacts-new (allBrought clear cs) none books in
+  pub carries-out-what-is-heard : (cs : List Sent) → allMayCome cs ≡ true → (store : B)
+      → (session carry (switchedOn store) (allArriving cs) .carried ≡ withoutRepeats (allHeard clear cs))
+      × (session carry (switchedOn store) (allArriving cs) .state .store ≡ carryAll carry store (withoutRepeats (allHeard clear cs)))
+  carries-out-what-is-heard cs e store =
+      let brought = all-brought cs e clear tt none store in
+      let new = reacts-new (allBrought clear cs) none store in
       let told = ap withoutRepeats (all-heard cs clear) in (
         ap (λ (z : Session B). z .carried) brought ∙ new .0 ∙ told,
-        ap (λ (z : Session B). z .state .books) brought ∙ new .1 ∙ ap (carryAll carry books) told,
+        ap (λ (z : Session B). z .state .store) brought ∙ new .1 ∙ ap (carryAll carry store) told,
       )
 
 -- where no try lacks only its last byte, exactly the whole ones are heard
@@ -306,10 +306,10 @@ whole-new (c ∷ cs) before n e = go (any isWhole (c .tries)) refl n e (whole-ne
 
 -- the theorem in the customer's words: the device carries out exactly those commands of which a try arrived whole, each once and in order
 pub carries-out-those-whole : {B : Type 0} (carry : B → Message → Carried B) (cs : List Sent) → allMayCome cs ≡ true → noneLacksLast cs ≡ true
-    → neighboursDiffer (arrivedWhole cs) ≡ true → (books : B)
-    → (session carry (switchedOn books) (allArriving cs) .carried ≡ commands (arrivedWhole cs))
-    × (session carry (switchedOn books) (allArriving cs) .state .books ≡ carryAll carry books (commands (arrivedWhole cs)))
-carries-out-those-whole carry cs e f d books =
-    let heard-so = carries-out-what-is-heard carry cs e books in
+    → neighboursDiffer (arrivedWhole cs) ≡ true → (store : B)
+    → (session carry (switchedOn store) (allArriving cs) .carried ≡ commands (arrivedWhole cs))
+    × (session carry (switchedOn store) (allArriving cs) .state .store ≡ carryAll carry store (commands (arrivedWhole cs)))
+carries-out-those-whole carry cs e f d store =
+    let heard-so = carries-out-what-is-heard carry cs e store in
     let those = ap withoutRepeats (all-whole cs e f clear tt) ∙ whole-new cs none (new-none (arrivedWhole cs)) d in
-    (heard-so .0 ∙ those, heard-so .1 ∙ ap (carryAll carry books) those)
+    (heard-so .0 ∙ those, heard-so .1 ∙ ap (carryAll carry store) those)

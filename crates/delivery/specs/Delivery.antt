@@ -70,13 +70,13 @@ abbrev pub triesLeave : Begun → Message → List Arrival → Begun
 triesLeave b m [] = b
 triesLeave b m (a ∷ rest) = triesLeave (leaves Command b m a) m rest
 
--- PROTOCOL 9.4: what is given back for what a try of m brings: NAK (15h) for a broken frame; for a frame heard its answer, that of m, or that
--- of the command before m once more
-abbrev pub givenBack : Message → (last answer : List ℕ) → List Event → List ℕ
-givenBack m last answer [] = []
-givenBack m last answer (nothing ∷ es) = givenBack m last answer es
-givenBack m last answer (brokenFrame ∷ es) = 0x15 ∷ givenBack m last answer es
-givenBack m last answer (heard n ∷ es) = cond (differ n m) last answer ++ givenBack m last answer es
+-- PROTOCOL 9.4: what is given back for what a try of m brings: NAK (15h) for a broken frame; for a frame heard its answer, that of m, with its lead where m is
+-- carried out now, or that of the command before m once more; `done` says whether m was carried out before
+abbrev pub givenBack : {B : Type 0} → Message → (last : List ℕ) → Carried B → (done : Bool) → List Event → List ℕ
+givenBack m last k done [] = []
+givenBack m last k done (nothing ∷ es) = givenBack m last k done es
+givenBack m last k done (brokenFrame ∷ es) = 0x15 ∷ givenBack m last k done es
+givenBack m last k done (heard n ∷ es) = cond (differ n m) last (cond done [] (k .lead) ++ k .answer) ++ givenBack m last k (done || not (differ n m)) es
 
 -- whether m itself is heard
 abbrev pub heardIn : Message → List Event → Bool
@@ -90,32 +90,32 @@ abbrev pub carriedIn : Message → (done now : Bool) → List Message
 carriedIn m done now = cond (not done && now) (m ∷ []) []
 
 module _ {B : Type 0} (carry : B → Message → Carried B) where
-  -- PROTOCOL 9.6: what a list of commands makes of the books, each carried out once and in order
+  -- PROTOCOL 9.6: what a list of commands makes of the store, each carried out once and in order
   abbrev pub carryAll : B → List Message → B
-  carryAll books [] = books
-  carryAll books (m ∷ ms) = carryAll (carry books m .books) ms
+  carryAll store [] = store
+  carryAll store (m ∷ ms) = carryAll (carry store m .store) ms
 
   -- PROTOCOL 9.4: one try of m: what is given back during it, and whether m is carried out with it; `done` says whether it was before
-  pub record TryBrings (s : State B) (m : Message) (done : Bool) (last answer : List ℕ) (a : Arrival) (brought : List Event) : Type 0 where
-    pub gives : session carry s (arriving (frame Command m) a) .gives ≡ givenBack m last answer brought
+  pub record TryBrings (s : State B) (m : Message) (done : Bool) (last : List ℕ) (k : Carried B) (a : Arrival) (brought : List Event) : Type 0 where
+    pub gives : session carry s (arriving (frame Command m) a) .gives ≡ givenBack m last k done brought
     pub carried : session carry s (arriving (frame Command m) a) .carried ≡ carriedIn m done (heardIn m brought)
 
   -- the tries of one command, one after the other, from what stands begun
-  abbrev pub TriesBring : State B → Begun → Message → Bool → (last answer : List ℕ) → List Arrival → Type 0
-  TriesBring s b m done last answer [] = Unit {0}
-  TriesBring s b m done last answer (a ∷ rest) =
+  abbrev pub TriesBring : State B → Begun → Message → Bool → (last : List ℕ) → Carried B → List Arrival → Type 0
+  TriesBring s b m done last k [] = Unit {0}
+  TriesBring s b m done last k (a ∷ rest) =
       let brought = brings Command b m a in
-      TryBrings s m done last answer a brought
-      × TriesBring (session carry s (arriving (frame Command m) a) .state) (leaves Command b m a) m (done || heardIn m brought) last answer rest
+      TryBrings s m done last k a brought
+      × TriesBring (session carry s (arriving (frame Command m) a) .state) (leaves Command b m a) m (done || heardIn m brought) last k rest
 
   -- and of every command of the list: its answer is that of carrying it out at its turn
   abbrev pub AllBring : State B → Begun → B → (last : List ℕ) → List Sent → Type 0
-  AllBring s b books last [] = Unit {0}
-  AllBring s b books last (c ∷ cs) =
+  AllBring s b store last [] = Unit {0}
+  AllBring s b store last (c ∷ cs) =
       let m = c .command in
-      let answer = carry books m .answer in
-      TriesBring s b m false last answer (c .tries)
-      × AllBring (session carry s (triesArriving (frame Command m) (c .tries)) .state) (triesLeave b m (c .tries)) (carry books m .books) answer cs
+      let k = carry store m in
+      TriesBring s b m false last k (c .tries)
+      × AllBring (session carry s (triesArriving (frame Command m) (c .tries)) .state) (triesLeave b m (c .tries)) (k .store) (k .answer) cs
 
   -- PROTOCOL 9.5: a try of m that is cut, and the next one, of n, whose first byte has become 03h
   abbrev pub lacking : State B → Message → ℕ → Session B
