@@ -1,4 +1,3 @@
 pub mod Working
 pub mod Turning
 pub mod Parts
-pub mod Listening

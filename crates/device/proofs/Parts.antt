@@ -1,13 +1,13 @@
 -- A call of the device: its promise in two halves, and what it leaves to the rest of a session.
 use mathlib.Core.Path.{_≡_, refl, sym, ap, _∙_, subst}
 use mathlib.Core.Bool.{Bool, true, false, cond}
-use mathlib.Core.List.{List, [], _∷_, _++_, append-nil}
+use mathlib.Core.List.{List, [], _∷_, _++_}
 use Prim.Native.Nat.{ℕ, _+_, _≤_, _<_}
 use native.Mathlib.Numerals.{add-one}
 use native.Mathlib.Omega.{arith}
 use lib.ListN.{length, take, drop}
 use lib.Seq.{length-sets}
-use borrow.Author.Tests.{lt-ltb, le-ltb}
+use borrow.Author.Tests.{lt-leb, le-leb}
 use Rattle.text.proofs.Laws.{empty}
 use Rattle.wire.specs.Frame.{Message, commandOf}
 use Rattle.wire.specs.declared.Kind.the-variants.{Command}
@@ -15,35 +15,37 @@ use Rattle.reader.specs.Reading.{Place, outside, Event, nothing, brokenFrame, h
 use Rattle.reader.specs.Fields.{placeOf, readerOf, keptIn}
 use Rattle.reader.proofs.Running.{bytesOf, place-back, read-room, kept-length}
 use Rattle.reader.proofs.Holding.{Underway, underway-few, underway-read}
-use Rattle.books.specs.declared.Books.{Books}
-use Rattle.line.specs.Turns.{Before, was, State, Turn, turn, onEvent, Session, session, repeats}
+use Rattle.line.specs.Turns.{Before, was, State, Turn, turn, onEvent, Session, session, repeats, lastAnswer}
 use Rattle.line.specs.Calls.{beforeOf, isRepeat, isQuiet, callOf, calledOf}
 use Rattle.line.specs.Listening.{frameAfter, listenedTo, frameBehind}
 use Rattle.line.specs.declared.Call.{Call}
-use Rattle.line.specs.declared.Call.the-variants.{Quiet, Again, Order}
+use Rattle.line.specs.declared.Call.the-variants.{Quiet, Nak, Again, Order}
 use Rattle.line.specs.declared.Line.{Line}
 use Rattle.line.specs.declared.Listened.{Listened}
-use Rattle.device.specs.Carrying.{carry}
-use Rattle.device.specs.Device.{After, stateOf, taken, notTaken, previousAfter, lastAfter}
-use Rattle.device.specs.Recording.{listed, listing}
+use Rattle.books.specs.declared.Books.{Books}
+use Rattle.store.specs.Store.{Store}
+use Rattle.carrying.specs.Carrying.{carry}
+use Rattle.device.specs.Device.{Lent, enough, Machine, storeOf, After, stateOf, machineAfter, taken, notTaken, previousAfter, lastAfter}
 use Rattle.device.specs.Answering.{answering}
-use Rattle.device.specs.Hearing.{PartHeard, partOf, oneMore, hearing, afterPart}
-use Rattle.device.specs.Private.{listedCall}
+use Rattle.device.specs.Hearing.{PartHeard, afterOf, oneMore, hearing, afterPart, carriedBy}
 use Rattle.device.specs.declared.Given.{Given}
-use Rattle.device.proofs.Working.{front-stands}
-use Rattle.device.proofs.Turning.{Standing-in, heard-whole, same-repeat, byte-is, byte-quiet, quiet-is, againTurn, orderTurn}
+use Rattle.device.proofs.Working.{front-stands, again-few}
+use Rattle.device.proofs.Turning.{Standing-in, heard-whole, same-repeat, byte-is, byte-quiet, quiet-is, againTurn, orderTurn, callAt, heardUpTo}
 
 -- what is listened to, then what it asks for
-module _ (b : Books) (last buffer : List ℕ) where
-  abbrev halves : Listened → List ℕ → PartHeard
-  halves x frame = partOf (answering (x .line) b (x .call) frame last buffer) (x .call) (x .taken)
+module _ (b : Books) (last : List ℕ) (lent : Lent) where
+  abbrev at : Line → List ℕ → Machine
+  at l frame = record { device = record { line = l; books = b }; frame = frame; last = last }
 
-  two-halves : (bytes : List ℕ) (l : Line) (frame : List ℕ) → halves (listenedTo l frame bytes) (frameBehind l frame bytes) ≡ hearing l b frame last buffer bytes
+  abbrev halves : Listened → List ℕ → PartHeard
+  halves x frame = record { after = answering (x .call) (at (x .line) frame) lent; call = x .call; taken = x .taken }
+
+  two-halves : (bytes : List ℕ) (l : Line) (frame : List ℕ) → halves (listenedTo l frame bytes) (frameBehind l frame bytes) ≡ hearing (at l frame) lent bytes
   two-halves [] l frame = refl
-  two-halves (x ∷ xs) l frame = go (isQuiet (calledOf l frame x .call)) refl (two-halves xs (calledOf l frame x .line) (frameAfter l frame x))
+  two-halves (x ∷ xs) l frame = go (isQuiet (callAt m lent x)) refl (two-halves xs next kept)
     where
-      call : Call
-      call = calledOf l frame x .call
+      m : Machine
+      m = at l frame
 
       next : Line
       next = calledOf l frame x .line
@@ -55,193 +57,196 @@ module _ (b : Books) (last buffer : List ℕ) where
       later = listenedTo next kept xs
 
       a : After
-      a = taken l frame last buffer (turn carry (stateOf l b frame last) x)
+      a = taken m lent (turn carry (stateOf m) x)
 
-      go : (q : Bool) → isQuiet call ≡ q → halves later (frameBehind next kept xs) ≡ hearing next b kept last buffer xs
-          → halves (cond q (record { line = later .line; call = later .call; taken = later .taken + 1 }) (record { line = next; call = call; taken = 1 })) (cond q (frameBehind next kept xs) kept)
-          ≡ cond q (oneMore (hearing (a .given .line) (a .given .books) (a .frame) (a .last) (a .buffer) xs)) (partOf a call 1)
-      go true e rest =
-          ap oneMore rest ∙ ap (λ (z : After). oneMore (hearing (z .given .line) (z .given .books) (z .frame) (z .last) (z .buffer) xs)) (byte-quiet l b frame last buffer x e)
-      go false e rest = ap (λ z. partOf z call 1) (byte-is l b frame last buffer x)
+      go : (q : Bool) → isQuiet (callAt m lent x) ≡ q → halves later (frameBehind next kept xs) ≡ hearing (at next kept) lent xs
+          → halves (cond q (record { line = later .line; call = later .call; taken = later .taken + 1 }) (record { line = next; call = callAt m lent x; taken = 1 })) (cond q (frameBehind next kept xs) kept)
+          ≡ cond q (oneMore (hearing (a .machine) (a .lent) xs)) (record { after = a; call = callAt m lent x; taken = 1 })
+      go true e rest = ap oneMore rest ∙ ap (λ (z : After). oneMore (hearing (z .machine) (z .lent) xs)) (byte-quiet m lent x e)
+      go false e rest = ap (λ z. record { after = z; call = callAt m lent x; taken = 1 }) (byte-is m lent x)
 
-module _ (l : Line) (b : Books) (frame last buffer bytes : List ℕ) where
-  pub part-short : (g : Given) → g ≡ record { line = l; books = b; number = 7; count = 0 } → length buffer < 217
-      → record { hearing = record { given = g; call = Quiet; taken = 0 }; frame = frame; last = last; buffer = buffer } ≡ afterPart l b frame last buffer bytes
+module _ (m : Machine) (lent : Lent) (bytes : List ℕ) where
+  abbrev unheard : PartHeard
+  unheard = record { after = notTaken m lent; call = Quiet; taken = 0 }
+
+  pub part-short : (g : Given) → g ≡ record { device = m .device; number = 7; count = 0 } → length (lent .buffer) < 217
+      → record { after = afterOf g (m .frame) (m .last) (lent .buffer); call = Quiet; taken = 0 } ≡ afterPart m lent bytes
   part-short g eg h =
-      ap (λ z. record { hearing = record { given = z; call = Quiet; taken = 0 }; frame = frame; last = last; buffer = buffer }) eg
-      ∙ sym (ap (λ z. cond z (partOf (notTaken l b frame last buffer) Quiet 0) (hearing l b frame last buffer bytes)) (lt-ltb (length buffer) 217 h))
+      ap (λ z. record { after = afterOf z (m .frame) (m .last) (lent .buffer); call = Quiet; taken = 0 }) eg
+      ∙ sym (ap (λ z. cond z (hearing m lent bytes) unheard) (lt-leb 217 (length (lent .buffer)) h))
 
-  pub part-long : 217 ≤ length buffer → hearing l b frame last buffer bytes ≡ afterPart l b frame last buffer bytes
-  part-long h = sym (ap (λ z. cond z (partOf (notTaken l b frame last buffer) Quiet 0) (hearing l b frame last buffer bytes)) (le-ltb (length buffer) 217 h))
+  pub part-long : 217 ≤ length (lent .buffer) → hearing m lent bytes ≡ afterPart m lent bytes
+  part-long h = sym (ap (λ z. cond z (hearing m lent bytes) unheard) (le-leb 217 (length (lent .buffer)) h))
 
-  pub part-heard : (x : Listened) (frame' : List ℕ) (a : After) → x ≡ listenedTo l frame bytes → frame' ≡ frameBehind l frame bytes
-      → a ≡ answering (x .line) b (x .call) frame' last buffer → 217 ≤ length buffer → partOf a (x .call) (x .taken) ≡ afterPart l b frame last buffer bytes
+  pub part-heard : (x : Listened) (frame' : List ℕ) (a : After) → x ≡ listenedTo (m .device .line) (m .frame) bytes → frame' ≡ frameBehind (m .device .line) (m .frame) bytes
+      → a ≡ answering (x .call) (at (m .device .books) (m .last) lent (x .line) frame') lent → 217 ≤ length (lent .buffer)
+      → record { after = a; call = x .call; taken = x .taken } ≡ afterPart m lent bytes
   part-heard x frame' a ex ef ea h =
-      ap (λ z. partOf z (x .call) (x .taken)) ea ∙ ap (λ z. halves b last buffer z frame') ex ∙ ap (halves b last buffer (listenedTo l frame bytes)) ef
-      ∙ two-halves b last buffer bytes l frame ∙ part-long h
+      let l = m .device .line in
+      let split = halves (m .device .books) (m .last) lent in
+      ap (λ z. record { after = z; call = x .call; taken = x .taken }) ea ∙ ap (λ z. split z frame') ex ∙ ap (split (listenedTo l (m .frame) bytes)) ef
+      ∙ two-halves (m .device .books) (m .last) lent bytes l (m .frame) ∙ part-long h
 
 -- what a turn leaves in the fields and arrays says the state that it leads to
-module _ (l : Line) (b : Books) (frame last : List ℕ) (lasts : length last ≡ 217) where
-  abbrev pub state : State Books
-  state = stateOf l b frame last
+module _ (m : Machine) (lasts : length (m .last) ≡ 217) where
+  abbrev none : Lent
+  none = record { buffer = [] }
 
-  kept-before : (next : Place) (m : Message) (repeat : Bool)
-      → length (cond repeat (againTurn l b frame last [] next) (orderTurn l b frame last [] next m) .gives) ≤ 217
-      → beforeOf (previousAfter (l .previous) (cond repeat (againTurn l b frame last [] next) (orderTurn l b frame last [] next m) .carried) (cond repeat (againTurn l b frame last [] next) (orderTurn l b frame last [] next m) .gives))
-      (lastAfter last (cond repeat (againTurn l b frame last [] next) (orderTurn l b frame last [] next m) .carried) (cond repeat (againTurn l b frame last [] next) (orderTurn l b frame last [] next m) .gives))
-      ≡ cond repeat (againTurn l b frame last [] next) (orderTurn l b frame last [] next m) .state .before
-  kept-before next m true h = refl
-  kept-before next m false h =
-      ap (was (m .seq) (m .code)) (front-stands last (carry b m .answer) (omega (arith, lasts, h)))
+  -- a whole frame, by whether it is a repeat
+  abbrev whole : Place → Message → Bool → Turn Store
+  whole next n repeat = cond repeat (againTurn m none next) (orderTurn m none next n)
 
-  before-back : (next : Place) (e : Event) → length (onEvent carry state next e .gives) ≤ 217
-      → beforeOf (previousAfter (l .previous) (onEvent carry state next e .carried) (onEvent carry state next e .gives)) (lastAfter last (onEvent carry state next e .carried) (onEvent carry state next e .gives))
-      ≡ onEvent carry state next e .state .before
+  kept-before : (next : Place) (n : Message) (repeat : Bool) → length (lastAnswer (whole next n repeat .state .before)) ≤ 217
+      → beforeOf (previousAfter (m .device .line .previous) (whole next n repeat .carried) (whole next n repeat .state .before)) (lastAfter (m .last) (whole next n repeat .carried) (whole next n repeat .state .before))
+      ≡ whole next n repeat .state .before
+  kept-before next n true h = refl
+  kept-before next n false h = ap (was (n .seq) (n .code)) (front-stands (m .last) (carry (storeOf m) n .answer) (omega (arith, lasts, h)))
+
+  before-back : (next : Place) (e : Event) → length (lastAnswer (onEvent carry (stateOf m) next e .state .before)) ≤ 217
+      → beforeOf (previousAfter (m .device .line .previous) (onEvent carry (stateOf m) next e .carried) (onEvent carry (stateOf m) next e .state .before))
+      (lastAfter (m .last) (onEvent carry (stateOf m) next e .carried) (onEvent carry (stateOf m) next e .state .before))
+      ≡ onEvent carry (stateOf m) next e .state .before
   before-back next nothing h = refl
   before-back next brokenFrame h = refl
-  before-back next (heard m) h = kept-before next m (repeats (beforeOf (l .previous) last) m) h
+  before-back next (heard n) h = kept-before next n (repeats (beforeOf (m .device .line .previous) (m .last)) n) h
 
-  place-kept : (next : Place) (e : Event) → onEvent carry state next e .state .place ≡ next
+  pub place-kept : (next : Place) (e : Event) → onEvent carry (stateOf m) next e .state .place ≡ next
   place-kept next nothing = refl
   place-kept next brokenFrame = refl
-  place-kept next (heard m) = go (repeats (beforeOf (l .previous) last) m)
+  place-kept next (heard n) = go (repeats (beforeOf (m .device .line .previous) (m .last)) n)
     where
-      go : (repeat : Bool) → cond repeat (againTurn l b frame last [] next) (orderTurn l b frame last [] next m) .state .place ≡ next
+      go : (repeat : Bool) → whole next n repeat .state .place ≡ next
       go true = refl
       go false = refl
 
-  -- and the list of commands grows by what the call says
-  pub call-listed : (next : Place) (e : Event) → ((m : Message) → e ≡ heard m → (next ≡ outside) × Standing-in frame m) → (frame' : List ℕ) → frame' ≡ keptIn frame next
-      → listing (onEvent carry state next e .carried) ≡ listedCall (callOf (l .previous) e) frame'
-  call-listed next nothing k frame' ef = refl
-  call-listed next brokenFrame k frame' ef = refl
-  call-listed next (heard m) k frame' ef =
-      let same : frame' ≡ frame = ef ∙ ap (keptIn frame) (k m refl .0) in
-      ap (λ z. listing (cond z (againTurn l b frame last [] next) (orderTurn l b frame last [] next m) .carried)) (same-repeat (l .previous) last m)
-      ∙ go (isRepeat (l .previous) (m .seq) (m .code)) same
+  -- and the command carried out is the call's
+  call-carried : (next : Place) (e : Event) → ((n : Message) → e ≡ heard n → (next ≡ outside) × Standing-in (m .frame) n) → (frame' : List ℕ) → frame' ≡ keptIn (m .frame) next
+      → onEvent carry (stateOf m) next e .carried ≡ carriedBy (callOf (m .device .line .previous) e) frame'
+  call-carried next nothing k frame' ef = refl
+  call-carried next brokenFrame k frame' ef = refl
+  call-carried next (heard n) k frame' ef =
+      let same : frame' ≡ m .frame = ef ∙ ap (keptIn (m .frame)) (k n refl .0) in
+      ap (λ z. whole next n z .carried) (same-repeat (m .device .line .previous) (m .last) n) ∙ go (isRepeat (m .device .line .previous) (n .seq) (n .code)) same
     where
-      go : (repeat : Bool) → frame' ≡ frame
-          → listing (cond repeat (againTurn l b frame last [] next) (orderTurn l b frame last [] next m) .carried) ≡ listedCall (cond repeat Again (Order (m .seq) (m .code) (length (m .content)))) frame'
+      go : (repeat : Bool) → frame' ≡ m .frame → whole next n repeat .carried ≡ carriedBy (cond repeat Again (Order (n .seq) (n .code) (length (n .content)))) frame'
       go true same = refl
       go false same =
-          append-nil (listed m) ∙ ap listed (k m refl .1) ∙ ap (λ z. listed (commandOf (m .seq) (m .code) (take (length (m .content)) (drop 3 z)))) (sym same)
+          ap (λ z. z ∷ []) (k n refl .1) ∙ ap (λ z. commandOf (n .seq) (n .code) (take (length (n .content)) (drop 3 z)) ∷ []) (sym same)
 
-  pub state-back : (byte : ℕ) → length (bytesOf (placeOf (l .reader) frame)) < 256 → length frame ≡ 256 → length (turn carry state byte .gives) ≤ 217
-      → stateOf (record { reader = readerOf (turn carry state byte .state .place); previous = previousAfter (l .previous) (turn carry state byte .carried) (turn carry state byte .gives) }) (turn carry state byte .state .books)
-      (keptIn frame (turn carry state byte .state .place)) (lastAfter last (turn carry state byte .carried) (turn carry state byte .gives))
-      ≡ turn carry state byte .state
+  -- an answer that is kept is given back whole, with its lead before it or without
+  answer-few : (next : Place) (e : Event) → length (onEvent carry (stateOf m) next e .gives) ≤ 217 → length (lastAnswer (onEvent carry (stateOf m) next e .state .before)) ≤ 217
+  answer-few next nothing h = again-few (m .device .line .previous) (m .last) lasts
+  answer-few next brokenFrame h = again-few (m .device .line .previous) (m .last) lasts
+  answer-few next (heard n) h = go (repeats (beforeOf (m .device .line .previous) (m .last)) n) h
+    where
+      go : (repeat : Bool) → length (whole next n repeat .gives) ≤ 217 → length (lastAnswer (whole next n repeat .state .before)) ≤ 217
+      go true few = few
+      go false few = few
+
+  pub state-back : (byte : ℕ) → length (bytesOf (placeOf (m .device .line .reader) (m .frame))) < 256 → length (m .frame) ≡ 256 → length (turn carry (stateOf m) byte .gives) ≤ 217
+      → stateOf (machineAfter m (turn carry (stateOf m) byte)) ≡ turn carry (stateOf m) byte .state
   state-back byte small size few =
-      let at : Read = read Command (placeOf (l .reader) frame) byte in
+      let frame = m .frame in
+      let t : Turn Store = turn carry (stateOf m) byte in
+      let here = placeOf (m .device .line .reader) frame in
+      let at : Read = read Command here byte in
       let kept = place-kept (at .place) (at .event) in
-      let back : placeOf (readerOf (at .place)) (keptIn frame (at .place)) ≡ at .place =
-      place-back frame (at .place) (omega (arith, read-room Command (placeOf (l .reader) frame) byte, small, size)) in
-      let held : Before =
-      beforeOf (previousAfter (l .previous) (turn carry state byte .carried) (turn carry state byte .gives)) (lastAfter last (turn carry state byte .carried) (turn carry state byte .gives)) in
-      ap (λ z. record { place = placeOf (readerOf z) (keptIn frame z); before = held; books = turn carry state byte .state .books }) kept
-      ∙ ap (λ z. record { place = z; before = held; books = turn carry state byte .state .books }) (back ∙ sym kept)
-      ∙ ap (λ z. record { place = turn carry state byte .state .place; before = z; books = turn carry state byte .state .books }) (before-back (at .place) (at .event) few)
-
-listing-none : (ms : List Message) → listing ms ≡ [] → ms ≡ []
-listing-none [] e = refl
-listing-none (m ∷ ms) e = let z : _≡_ {A = ℕ} 0 1 = cc in absurd (omega arith)
+      let back : placeOf (readerOf (at .place)) (keptIn frame (at .place)) ≡ at .place = place-back frame (at .place) (omega (arith, read-room Command here byte, small, size)) in
+      let held : Before = stateOf (machineAfter m t) .before in
+      ap (λ z. record { place = placeOf (readerOf z) (keptIn frame z); before = held; store = t .state .store }) kept
+      ∙ ap (λ z. record { place = z; before = held; store = t .state .store }) (back ∙ sym kept)
+      ∙ ap (λ z. record { place = t .state .place; before = z; store = t .state .store }) (before-back (at .place) (at .event) (answer-few (at .place) (at .event) few))
 
 -- a session with what came before it
-abbrev pub behind : List ℕ → List Message → Session Books → Session Books
+abbrev pub behind : List ℕ → List Message → Session Store → Session Store
 behind gives carried r = record { gives = gives ++ r .gives; carried = carried ++ r .carried; state = r .state }
 
--- a call on bytes that wait: what it gives back and lists, and that the session goes on behind it
-pub record Part (l : Line) (b : Books) (frame last buffer bytes : List ℕ) (h : PartHeard) : Type 0 where
+-- a call on bytes that wait: what it gives back, and that the session goes on behind it
+pub record Part (m : Machine) (lent : Lent) (bytes : List ℕ) (h : PartHeard) : Type 0 where
   pub gives : List ℕ
-  pub carried : List Message
-  pub given-is : take (h .hearing .given .count) (h .buffer) ≡ gives
-  pub listed-is : listing carried ≡ listedCall (h .hearing .call) (h .frame)
-  pub frames : length (h .frame) ≡ 256
-  pub lasts : length (h .last) ≡ 217
-  pub room : length (h .buffer) ≡ length buffer
-  pub held : Underway Command (placeOf (h .hearing .given .line .reader) (h .frame))
-  pub goes-on : session carry (stateOf l b frame last) bytes
-      ≡ behind gives carried (session carry (stateOf (h .hearing .given .line) (h .hearing .given .books) (h .frame) (h .last)) (drop (h .hearing .taken) bytes))
+  pub given-is : take (h .after .count) (h .after .lent .buffer) ≡ gives
+  pub frames : length (h .after .machine .frame) ≡ 256
+  pub lasts : length (h .after .machine .last) ≡ 217
+  pub room : length (h .after .lent .buffer) ≡ length (lent .buffer)
+  pub held : Underway Command (stateOf (h .after .machine) .place)
+  pub goes-on : session carry (stateOf m) bytes
+      ≡ behind gives (carriedBy (h .call) (h .after .machine .frame)) (session carry (stateOf (h .after .machine)) (drop (h .taken) bytes))
 
-pub part-is : (bytes : List ℕ) (l : Line) (b : Books) (frame last buffer : List ℕ) → length frame ≡ 256 → length last ≡ 217 → 217 ≤ length buffer
-    → Underway Command (placeOf (l .reader) frame) → hearing l b frame last buffer bytes .hearing .given .count ≤ 217
-    → Part l b frame last buffer bytes (hearing l b frame last buffer bytes)
-part-is [] l b frame last buffer frames lasts room held few =
-    record { gives = []; carried = []; given-is = refl; listed-is = refl; frames = frames; lasts = lasts; room = refl; held = held; goes-on = refl }
-part-is (x ∷ xs) l b frame last buffer frames lasts room held few = go (isQuiet (calledOf l frame x .call)) refl few (part-is xs)
+pub part-is : (bytes : List ℕ) (m : Machine) (lent : Lent) → length (m .frame) ≡ 256 → length (m .last) ≡ 217 → 217 ≤ length (lent .buffer)
+    → Underway Command (stateOf m .place) → hearing m lent bytes .after .count ≤ 217 → Part m lent bytes (hearing m lent bytes)
+part-is [] m lent frames lasts room held few = record { gives = []; given-is = refl; frames = frames; lasts = lasts; room = refl; held = held; goes-on = refl }
+part-is (x ∷ xs) m lent frames lasts room held few = go (isQuiet call) refl few (part-is xs)
   where
     call : Call
-    call = calledOf l frame x .call
+    call = callAt m lent x
 
-    t : Turn Books
-    t = turn carry (stateOf l b frame last) x
+    t : Turn Store
+    t = turn carry (stateOf m) x
 
     a : After
-    a = taken l frame last buffer t
+    a = taken m lent t
+
+    at : Read
+    at = read Command (stateOf m .place) x
 
     rest : PartHeard
-    rest = hearing (a .given .line) (a .given .books) (a .frame) (a .last) (a .buffer) xs
+    rest = hearing (a .machine) (a .lent) xs
 
-    last-length : (ms : List Message) → length (lastAfter last ms (t .gives)) ≡ length last
+    last-length : (ms : List Message) → length (lastAfter (m .last) ms (t .state .before)) ≡ length (m .last)
     last-length [] = refl
-    last-length (m ∷ ms) = length-sets last 0 (t .gives)
+    last-length (n ∷ ns) = length-sets (m .last) 0 (lastAnswer (t .state .before))
 
-    frames' : length (a .frame) ≡ 256
-    frames' = kept-length frame (t .state .place) ∙ frames
+    frames' : length (a .machine .frame) ≡ 256
+    frames' = kept-length (m .frame) (t .state .place) ∙ frames
 
-    lasts' : length (a .last) ≡ 217
+    lasts' : length (a .machine .last) ≡ 217
     lasts' = last-length (t .carried) ∙ lasts
 
-    back : length (t .gives) ≤ 217 → stateOf (a .given .line) (a .given .books) (a .frame) (a .last) ≡ t .state
-    back f = state-back l b frame last lasts x (underway-few Command (placeOf (l .reader) frame) held) frames f
+    back : length (t .gives) ≤ 217 → stateOf (a .machine) ≡ t .state
+    back f = state-back m lasts x (underway-few Command (stateOf m .place) held) frames f
 
-    held' : length (t .gives) ≤ 217 → Underway Command (placeOf (a .given .line .reader) (a .frame))
-    held' f =
-        let at : Read = read Command (placeOf (l .reader) frame) x in
-        subst (Underway Command) (sym (ap (λ (s : State Books). s .place) (back f) ∙ place-kept l b frame last lasts (at .place) (at .event))) (underway-read Command (placeOf (l .reader) frame) x held)
+    held' : length (t .gives) ≤ 217 → Underway Command (stateOf (a .machine) .place)
+    held' f = subst (Underway Command) (sym (ap (λ (s : State Store). s .place) (back f) ∙ place-kept m lasts (at .place) (at .event))) (underway-read Command (stateOf m .place) x held)
 
-    now-listed : listing (t .carried) ≡ listedCall call (a .frame)
-    now-listed =
-        let at : Read = read Command (placeOf (l .reader) frame) x in
-        call-listed l b frame last lasts (at .place) (at .event) (heard-whole (l .reader) frame x) (a .frame) (ap (keptIn frame) (place-kept l b frame last lasts (at .place) (at .event)))
+    now-carried : t .carried ≡ carriedBy call (a .machine .frame)
+    now-carried =
+        call-carried m lasts (at .place) (at .event) (heard-whole (m .device .line .reader) (m .frame) x) (a .machine .frame) (ap (keptIn (m .frame)) (place-kept m lasts (at .place) (at .event)))
 
     either : Bool → PartHeard
-    either q = cond q (oneMore rest) (partOf a call 1)
+    either q = cond q (oneMore rest) (record { after = a; call = call; taken = 1 })
 
-    go : (q : Bool) → isQuiet call ≡ q → either q .hearing .given .count ≤ 217
-        → ((l : Line) (b : Books) (frame last buffer : List ℕ) → length frame ≡ 256 → length last ≡ 217 → 217 ≤ length buffer
-        → Underway Command (placeOf (l .reader) frame) → hearing l b frame last buffer xs .hearing .given .count ≤ 217
-        → Part l b frame last buffer xs (hearing l b frame last buffer xs))
-        → Part l b frame last buffer (x ∷ xs) (either q)
+    go : (q : Bool) → isQuiet call ≡ q → either q .after .count ≤ 217
+        → ((n : Machine) (given : Lent) → length (n .frame) ≡ 256 → length (n .last) ≡ 217 → 217 ≤ length (given .buffer)
+        → Underway Command (stateOf n .place) → hearing n given xs .after .count ≤ 217 → Part n given xs (hearing n given xs))
+        → Part m lent (x ∷ xs) (either q)
     go true e few below =
-        let same = byte-quiet l b frame last buffer x e in
-        let none : t .gives ≡ [] = empty (t .gives) (sym (ap (λ (z : After). z .given .count) same)) in
-        let idle : t .carried ≡ [] = listing-none (t .carried) (now-listed ∙ ap (λ z. listedCall z (a .frame)) (quiet-is call e)) in
+        let same = byte-quiet m lent x e in
+        let none : t .gives ≡ [] = empty (t .gives) (sym (ap (λ (z : After). z .count) same)) in
+        let idle : t .carried ≡ [] = now-carried ∙ ap (λ z. carriedBy z (a .machine .frame)) (quiet-is call e) in
         let little : length (t .gives) ≤ 217 = omega (arith, ap length none) in
-        let p = below (a .given .line) (a .given .books) (a .frame) (a .last) (a .buffer) frames' lasts' (omega (arith, room, length-sets buffer 0 (t .gives))) (held' little) few in
-        let r : Session Books = session carry (stateOf (a .given .line) (a .given .books) (a .frame) (a .last)) xs in
+        let p = below (a .machine) (a .lent) frames' lasts' (omega (arith, room, length-sets (lent .buffer) 0 (t .gives))) (held' little) few in
+        let r : Session Store = session carry (stateOf (a .machine)) xs in
         record {
           gives = p .gives;
-          carried = p .carried;
           given-is = p .given-is;
-          listed-is = p .listed-is;
           frames = p .frames;
           lasts = p .lasts;
-          room = p .room ∙ length-sets buffer 0 (t .gives);
+          room = p .room ∙ length-sets (lent .buffer) 0 (t .gives);
           held = p .held;
           goes-on =
-              ap (λ (z : State Books). behind (t .gives) (t .carried) (session carry z xs)) (sym (back little))
+              ap (λ (z : State Store). behind (t .gives) (t .carried) (session carry z xs)) (sym (back little))
               ∙ ap (λ z. behind z (t .carried) r) none ∙ ap (λ z. behind [] z r) idle ∙ p .goes-on
-              ∙ ap (λ k. behind (p .gives) (p .carried) (session carry (stateOf (rest .hearing .given .line) (rest .hearing .given .books) (rest .frame) (rest .last)) (drop k (x ∷ xs)))) (sym (add-one (rest .hearing .taken)));
+              ∙ ap (λ k. behind (p .gives) (carriedBy (rest .call) (rest .after .machine .frame)) (session carry (stateOf (rest .after .machine)) (drop k (x ∷ xs)))) (sym (add-one (rest .taken)));
         }
     go false e few below =
         record {
           gives = t .gives;
-          carried = t .carried;
-          given-is = front-stands buffer (t .gives) (omega (arith, few, room));
-          listed-is = now-listed;
+          given-is = front-stands (lent .buffer) (t .gives) (omega (arith, few, room));
           frames = frames';
           lasts = lasts';
-          room = length-sets buffer 0 (t .gives);
+          room = length-sets (lent .buffer) 0 (t .gives);
           held = held' few;
-          goes-on = ap (λ (z : State Books). behind (t .gives) (t .carried) (session carry z xs)) (sym (back few));
+          goes-on =
+              ap (λ (z : State Store). behind (t .gives) (t .carried) (session carry z xs)) (sym (back few))
+              ∙ ap (λ z. behind (t .gives) z (session carry (stateOf (a .machine)) xs)) now-carried;
         }

@@ -12,17 +12,17 @@ use Rattle.wire.specs.declared.Kind.the-variants.{Command}
 use Rattle.reader.specs.Reading.{Place, outside, inside, Event, nothing, brokenFrame, heard, Read, Standing, broken, beginning, whole, standing, goesOn, grown, message, startsAnew, read, readOther}
 use Rattle.reader.specs.Fields.{placeOf, readerOf, keptIn}
 use Rattle.reader.specs.declared.Reader.{Reader}
-use Rattle.books.specs.declared.Books.{Books}
-use Rattle.line.specs.Turns.{was, State, Turn, turn, onEvent, repeats, lastAnswer}
+use Rattle.line.specs.Turns.{was, Carried, State, Turn, turn, onEvent, repeats, lastAnswer}
 use Rattle.line.specs.Calls.{beforeOf, isRepeat, isQuiet, callOf, calledOf}
 use Rattle.line.specs.Listening.{frameAfter}
+use Rattle.line.specs.declared.Call.{Call}
 use Rattle.line.specs.declared.Call.the-variants.{Quiet, Nak, Again, Order}
 use Rattle.line.specs.declared.Line.{Line}
 use Rattle.line.specs.declared.Previous.{Previous}
 use Rattle.line.specs.declared.Previous.the-variants.{Nothing, Frame}
-use Rattle.device.specs.Carrying.{carry}
-use Rattle.device.specs.Device.{stateOf, taken}
-use Rattle.line.specs.declared.Call.{Call}
+use Rattle.store.specs.Store.{Store}
+use Rattle.carrying.specs.Carrying.{carry}
+use Rattle.device.specs.Device.{Lent, Machine, storeOf, stateOf, taken}
 use Rattle.device.specs.Answering.{answering, orders, gives}
 use Rattle.device.specs.Hearing.{unmoved}
 
@@ -93,48 +93,57 @@ same-repeat Nothing last m = refl
 same-repeat (Frame s c n) last m = refl
 
 -- a byte in two halves
-module _ (l : Line) (b : Books) (frame last buffer : List ℕ) where
-  abbrev after-hearing : Place → Line
-  after-hearing next = record { reader = readerOf next; previous = l .previous }
+module _ (m : Machine) (lent : Lent) where
+  abbrev previous : Previous
+  previous = m .device .line .previous
 
-  abbrev state : State Books
-  state = stateOf l b frame last
+  -- the device with reading moved, and this frame
+  abbrev pub readingAt : Place → List ℕ → Machine
+  readingAt next frame =
+      record { device = record { line = record { reader = readerOf next; previous = previous }; books = m .device .books }; frame = frame; last = m .last }
 
   -- a whole frame given again, and carried out
-  abbrev pub againTurn : Place → Turn Books
-  againTurn next = record { number = 6; gives = lastAnswer (beforeOf (l .previous) last); carried = []; state = record { place = next; before = beforeOf (l .previous) last; books = b } }
+  abbrev pub againTurn : Place → Turn Store
+  againTurn next =
+      record { number = 6; gives = lastAnswer (beforeOf previous (m .last)); carried = []; state = record { place = next; before = beforeOf previous (m .last); store = storeOf m } }
 
-  abbrev pub orderTurn : Place → Message → Turn Books
-  orderTurn next m =
-      record { number = carry b m .number; gives = carry b m .answer; carried = m ∷ []; state = record { place = next; before = was (m .seq) (m .code) (carry b m .answer); books = carry b m .books } }
+  abbrev pub orderTurn : Place → Message → Turn Store
+  orderTurn next n =
+      let k : Carried Store = carry (storeOf m) n in
+      record { number = k .number; gives = k .lead ++ k .answer; carried = n ∷ []; state = record { place = next; before = was (n .seq) (n .code) (k .answer); store = k .store } }
 
-  whole-turn : (next : Place) (m : Message) (repeat : Bool) → keptIn frame next ≡ frame → Standing-in frame m
-      → answering (after-hearing next) b (cond repeat Again (Order (m .seq) (m .code) (length (m .content)))) frame last buffer
-      ≡ taken l frame last buffer (cond repeat (againTurn next) (orderTurn next m))
-  whole-turn next m true same stands =
-      ap (λ z. gives Again (after-hearing next) b (lastAnswer (beforeOf (l .previous) last)) z last buffer) (sym same)
-  whole-turn next m false same stands =
-      ap (λ z. orders (after-hearing next) (m .seq) (m .code) (carry b z) frame last buffer) (sym stands)
-      ∙ ap (λ z. orders (after-hearing next) (m .seq) (m .code) (carry b m) z last buffer) (sym same)
+  whole-turn : (next : Place) (n : Message) (repeat : Bool) → keptIn (m .frame) next ≡ m .frame → Standing-in (m .frame) n
+      → answering (cond repeat Again (Order (n .seq) (n .code) (length (n .content)))) (readingAt next (m .frame)) lent
+      ≡ taken m lent (cond repeat (againTurn next) (orderTurn next n))
+  whole-turn next n true same stands = ap (λ z. gives Again (lastAnswer (beforeOf previous (m .last))) (readingAt next z) lent) (sym same)
+  whole-turn next n false same stands =
+      ap (λ z. orders (n .seq) (n .code) (carry (storeOf m) z) (readingAt next (m .frame)) lent) (sym stands)
+      ∙ ap (λ z. orders (n .seq) (n .code) (carry (storeOf m) n) (readingAt next z) lent) (sym same)
 
-  pub turn-is : (next : Place) (e : Event) → ((m : Message) → e ≡ heard m → (next ≡ outside) × Standing-in frame m) → (frame' : List ℕ) → frame' ≡ keptIn frame next
-      → answering (after-hearing next) b (callOf (l .previous) e) frame' last buffer ≡ taken l frame last buffer (onEvent carry state next e)
-  turn-is next nothing k frame' ef = ap (λ z. answering (after-hearing next) b Quiet z last buffer) ef
-  turn-is next brokenFrame k frame' ef = ap (λ z. answering (after-hearing next) b Nak z last buffer) ef
-  turn-is next (heard m) k frame' ef =
-      let same : keptIn frame next ≡ frame = ap (keptIn frame) (k m refl .0) in
-      ap (λ z. answering (after-hearing next) b (callOf (l .previous) (heard m)) z last buffer) (ef ∙ same)
-      ∙ whole-turn next m (isRepeat (l .previous) (m .seq) (m .code)) same (k m refl .1)
-      ∙ sym (ap (λ z. taken l frame last buffer (cond z (againTurn next) (orderTurn next m))) (same-repeat (l .previous) last m))
+  pub turn-is : (next : Place) (e : Event) → ((n : Message) → e ≡ heard n → (next ≡ outside) × Standing-in (m .frame) n) → (frame : List ℕ) → frame ≡ keptIn (m .frame) next
+      → answering (callOf previous e) (readingAt next frame) lent ≡ taken m lent (onEvent carry (stateOf m) next e)
+  turn-is next nothing k frame ef = ap (λ z. answering Quiet (readingAt next z) lent) ef
+  turn-is next brokenFrame k frame ef = ap (λ z. answering Nak (readingAt next z) lent) ef
+  turn-is next (heard n) k frame ef =
+      let same : keptIn (m .frame) next ≡ m .frame = ap (keptIn (m .frame)) (k n refl .0) in
+      ap (λ z. answering (callOf previous (heard n)) (readingAt next z) lent) (ef ∙ same)
+      ∙ whole-turn next n (isRepeat previous (n .seq) (n .code)) same (k n refl .1)
+      ∙ sym (ap (λ z. taken m lent (cond z (againTurn next) (orderTurn next n))) (same-repeat previous (m .last) n))
+
+  -- the device behind a byte that was heard, before what it asks for
+  abbrev pub heardUpTo : ℕ → Machine
+  heardUpTo byte =
+      record { device = record { line = calledOf (m .device .line) (m .frame) byte .line; books = m .device .books }; frame = frameAfter (m .device .line) (m .frame) byte; last = m .last }
+
+  abbrev pub callAt : ℕ → Call
+  callAt byte = calledOf (m .device .line) (m .frame) byte .call
 
   -- the whole byte: what is heard, then what it asks for
-  pub byte-is : (byte : ℕ) → answering (calledOf l frame byte .line) b (calledOf l frame byte .call) (frameAfter l frame byte) last buffer ≡ taken l frame last buffer (turn carry state byte)
+  pub byte-is : (byte : ℕ) → answering (callAt byte) (heardUpTo byte) lent ≡ taken m lent (turn carry (stateOf m) byte)
   byte-is byte =
-      let at : Read = read Command (placeOf (l .reader) frame) byte in
-      turn-is (at .place) (at .event) (heard-whole (l .reader) frame byte) (frameAfter l frame byte) refl
+      let at : Read = read Command (placeOf (m .device .line .reader) (m .frame)) byte in
+      turn-is (at .place) (at .event) (heard-whole (m .device .line .reader) (m .frame) byte) (frameAfter (m .device .line) (m .frame) byte) refl
 
-  -- a quiet byte moves nothing but reading and the lent frame
-  pub byte-quiet : (byte : ℕ) → isQuiet (calledOf l frame byte .call) ≡ true
-      → unmoved (calledOf l frame byte .line) b (frameAfter l frame byte) last buffer ≡ taken l frame last buffer (turn carry state byte)
-  byte-quiet byte e =
-      ap (λ z. answering (calledOf l frame byte .line) b z (frameAfter l frame byte) last buffer) (sym (quiet-is (calledOf l frame byte .call) e)) ∙ byte-is byte
+  -- a quiet byte moves nothing but reading and the frame
+  pub byte-quiet : (byte : ℕ) → isQuiet (callAt byte) ≡ true → unmoved (heardUpTo byte) lent ≡ taken m lent (turn carry (stateOf m) byte)
+  byte-quiet byte e = ap (λ z. answering z (heardUpTo byte) lent) (sym (quiet-is (callAt byte) e)) ∙ byte-is byte

@@ -1,61 +1,81 @@
--- The device: its fields and lent arrays as a state, and one byte with a lent buffer.
+-- The device: its fields and arrays as a state, and one byte with what is lent for it.
 use Prim.Native.Nat.{ℕ}
-use mathlib.Core.Bool.{cond}
+use mathlib.Core.Bool.{Bool, cond}
 use mathlib.Core.List.{List, [], _∷_}
-use lib.Dec.{ltb}
+use lib.Dec.{leb}
 use lib.ListN.{length}
 use lib.Seq.{sets}
 use Rattle.wire.specs.Frame.{Message}
 use Rattle.reader.specs.Fields.{placeOf, readerOf, keptIn}
-use Rattle.books.specs.declared.Books.{Books}
-use Rattle.line.specs.Turns.{State, Turn, turn}
+use Rattle.line.specs.Turns.{Before, State, Turn, turn, lastAnswer}
 use Rattle.line.specs.Calls.{beforeOf}
-use Rattle.line.specs.declared.Line.{Line}
 use Rattle.line.specs.declared.Previous.{Previous}
 use Rattle.line.specs.declared.Previous.the-variants.{Frame}
-use Rattle.device.specs.Carrying.{carry}
-use Rattle.device.specs.declared.Given.{Given}
+use Rattle.store.specs.Store.{Store}
+use Rattle.carrying.specs.Carrying.{carry}
+use Rattle.device.specs.declared.Device.{Device}
 
--- PROTOCOL 8.3: what the fields and the two lent arrays say: the bytes since 01h stand in `frame`, the last answer in `last`
-abbrev pub stateOf : Line → Books → List ℕ → List ℕ → State Books
-stateOf l b frame last = record { place = placeOf (l .reader) frame; before = beforeOf (l .previous) last; books = b }
-
--- the device and the lent bytes after one byte: `given` has the reply number and how many bytes are given back
-pub record After : Type 0 where
-  pub given : Given
-  pub frame : List ℕ
-  pub last : List ℕ
+-- PROTOCOL 2.4: what is lent with each byte, whatever it holds: the buffer for what is given back
+pub record Lent : Type 0 where
   pub buffer : List ℕ
 
+-- PROTOCOL 2.4: all of it is long enough; if not it is 7, before anything else is looked at
+abbrev pub enough : Lent → Bool
+enough lent = leb 217 (length (lent .buffer))
+
+-- PROTOCOL 8.3: a device: its fields, and its own two arrays, the bytes since 01h and the last answer
+pub record Machine : Type 0 where
+  pub device : Device
+  pub frame : List ℕ
+  pub last : List ℕ
+
+-- PROTOCOL 8.3: what commands work on, as the device's fields and arrays say it
+abbrev pub storeOf : Machine → Store
+storeOf m = record { books = m .device .books }
+
+abbrev pub stateOf : Machine → State Store
+stateOf m =
+    record { place = placeOf (m .device .line .reader) (m .frame); before = beforeOf (m .device .line .previous) (m .last); store = storeOf m }
+
+-- the device and what was lent after one byte: the reply number, and how many bytes are given back
+pub record After : Type 0 where
+  pub machine : Machine
+  pub lent : Lent
+  pub number : ℕ
+  pub count : ℕ
+
 -- PROTOCOL 1.11: a command carried out becomes the frame before, with its answer; nothing else does
-abbrev pub previousAfter : Previous → List Message → List ℕ → Previous
-previousAfter p [] answer = p
-previousAfter p (m ∷ ms) answer = Frame (m .seq) (m .code) (length answer)
+abbrev pub previousAfter : Previous → List Message → Before → Previous
+previousAfter p [] before = p
+previousAfter p (m ∷ ms) before = Frame (m .seq) (m .code) (length (lastAnswer before))
 
-abbrev pub lastAfter : List ℕ → List Message → List ℕ → List ℕ
-lastAfter last [] answer = last
-lastAfter last (m ∷ ms) answer = sets last 0 answer
+abbrev pub lastAfter : List ℕ → List Message → Before → List ℕ
+lastAfter last [] before = last
+lastAfter last (m ∷ ms) before = sets last 0 (lastAnswer before)
 
--- PROTOCOL 2.5: a turn of the device, in its fields and in every lent byte: those behind what is given back stay as they were
-abbrev pub taken : Line → List ℕ → List ℕ → List ℕ → Turn Books → After
-taken l frame last buffer t =
+-- PROTOCOL 2.5: a turn of the device, in its fields and in every byte of its own and of what is lent: those behind what is given back stay as they were
+abbrev pub machineAfter : Machine → Turn Store → Machine
+machineAfter m t =
     record {
-      given = record {
-        line = record { reader = readerOf (t .state .place); previous = previousAfter (l .previous) (t .carried) (t .gives) };
-        books = t .state .books;
-        number = t .number;
-        count = length (t .gives);
+      device = record {
+        line = record {
+          reader = readerOf (t .state .place);
+          previous = previousAfter (m .device .line .previous) (t .carried) (t .state .before);
+        };
+        books = t .state .store .books;
       };
-      frame = keptIn frame (t .state .place);
-      last = lastAfter last (t .carried) (t .gives);
-      buffer = sets buffer 0 (t .gives);
+      frame = keptIn (m .frame) (t .state .place);
+      last = lastAfter (m .last) (t .carried) (t .state .before);
     }
 
--- PROTOCOL 2.4: 7, the byte is not taken, and everything stays
-abbrev pub notTaken : Line → Books → List ℕ → List ℕ → List ℕ → After
-notTaken l b frame last buffer =
-    record { given = record { line = l; books = b; number = 7; count = 0 }; frame = frame; last = last; buffer = buffer }
+abbrev pub taken : Machine → Lent → Turn Store → After
+taken m lent t =
+    record { machine = machineAfter m t; lent = record { buffer = sets (lent .buffer) 0 (t .gives) }; number = t .number; count = length (t .gives) }
 
--- PROTOCOL 2.4: one byte with a buffer of this length lent: with less than 217 bytes it is 7, before anything else is looked at
-abbrev pub lentTurn : (room : ℕ) → State Books → ℕ → Turn Books
-lentTurn room s byte = cond (ltb room 217) (record { number = 7; gives = []; carried = []; state = s }) (turn carry s byte)
+-- PROTOCOL 2.4: 7, the byte is not taken, and everything stays
+abbrev pub notTaken : Machine → Lent → After
+notTaken m lent = record { machine = m; lent = lent; number = 7; count = 0 }
+
+-- PROTOCOL 2.4: one byte with this lent
+abbrev pub lentTurn : Lent → State Store → ℕ → Turn Store
+lentTurn lent s byte = cond (enough lent) (turn carry s byte) (record { number = 7; gives = []; carried = []; state = s })

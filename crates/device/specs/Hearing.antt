@@ -2,45 +2,53 @@
 use Prim.Native.Nat.{ℕ, _+_}
 use mathlib.Core.Bool.{cond}
 use mathlib.Core.List.{List, [], _∷_}
-use lib.Dec.{ltb}
-use lib.ListN.{length}
-use Rattle.books.specs.declared.Books.{Books}
+use lib.ListN.{take, drop}
+use Rattle.wire.specs.Frame.{Message, commandOf}
 use Rattle.line.specs.Turns.{turn}
 use Rattle.line.specs.Calls.{isQuiet, calledOf}
 use Rattle.line.specs.declared.Call.{Call}
-use Rattle.line.specs.declared.Call.the-variants.{Quiet}
-use Rattle.line.specs.declared.Line.{Line}
-use Rattle.device.specs.Carrying.{carry}
-use Rattle.device.specs.Device.{After, stateOf, taken, notTaken}
+use Rattle.line.specs.declared.Call.the-variants.{Quiet, Nak, Again, Order}
+use Rattle.carrying.specs.Carrying.{carry}
+use Rattle.device.specs.Device.{Lent, enough, Machine, After, stateOf, taken, notTaken}
+use Rattle.device.specs.declared.Given.{Given}
 use Rattle.device.specs.declared.Hearing.{Hearing}
 
--- the device and the lent bytes after a call: `hearing` has what the last byte taken brought, and how many bytes were taken
+-- what a call brought: the device and what was lent behind it, what the last byte taken asked for, and how many bytes were taken
 pub record PartHeard : Type 0 where
-  pub hearing : Hearing
-  pub frame : List ℕ
-  pub last : List ℕ
-  pub buffer : List ℕ
+  pub after : After
+  pub call : Call
+  pub taken : ℕ
 
-abbrev pub partOf : After → Call → ℕ → PartHeard
-partOf a call n = record { hearing = record { given = a .given; call = call; taken = n }; frame = a .frame; last = a .last; buffer = a .buffer }
+-- the same as the code has it: what it hands back, and the arrays and the buffer behind the call
+abbrev pub afterOf : Given → (frame last buffer : List ℕ) → After
+afterOf g frame last buffer =
+    record { machine = record { device = g .device; frame = frame; last = last }; lent = record { buffer = buffer }; number = g .number; count = g .count }
+
+abbrev pub partOf : Hearing → (frame last buffer : List ℕ) → PartHeard
+partOf h frame last buffer = record { after = afterOf (h .given) frame last buffer; call = h .call; taken = h .taken }
 
 abbrev pub oneMore : PartHeard → PartHeard
-oneMore h =
-    record { hearing = record { given = h .hearing .given; call = h .hearing .call; taken = h .hearing .taken + 1 }; frame = h .frame; last = h .last; buffer = h .buffer }
+oneMore h = record { after = h .after; call = h .call; taken = h .taken + 1 }
 
 -- no byte heard: number 0, and all stays
-abbrev pub unmoved : Line → Books → (frame last buffer : List ℕ) → After
-unmoved l b frame last buffer = record { given = record { line = l; books = b; number = 0; count = 0 }; frame = frame; last = last; buffer = buffer }
+abbrev pub unmoved : Machine → Lent → After
+unmoved m lent = record { machine = m; lent = lent; number = 0; count = 0 }
 
 -- byte after byte, each a turn of the device; the first that asks for something ends the call
-abbrev pub hearing : Line → Books → (frame last buffer bytes : List ℕ) → PartHeard
-hearing l b frame last buffer [] = partOf (unmoved l b frame last buffer) Quiet 0
-hearing l b frame last buffer (x ∷ xs) =
-    let a = taken l frame last buffer (turn carry (stateOf l b frame last) x) in
-    let call = calledOf l frame x .call in
-    cond (isQuiet call) (oneMore (hearing (a .given .line) (a .given .books) (a .frame) (a .last) (a .buffer) xs)) (partOf a call 1)
+abbrev pub hearing : Machine → Lent → List ℕ → PartHeard
+hearing m lent [] = record { after = unmoved m lent; call = Quiet; taken = 0 }
+hearing m lent (b ∷ bs) =
+    let a = taken m lent (turn carry (stateOf m) b) in
+    let call = calledOf (m .device .line) (m .frame) b .call in
+    cond (isQuiet call) (oneMore (hearing (a .machine) (a .lent) bs)) (record { after = a; call = call; taken = 1 })
 
 -- PROTOCOL 2.4: with 7 before all else: no byte is taken
-abbrev pub afterPart : Line → Books → (frame last buffer bytes : List ℕ) → PartHeard
-afterPart l b frame last buffer bytes =
-    cond (ltb (length buffer) 217) (partOf (notTaken l b frame last buffer) Quiet 0) (hearing l b frame last buffer bytes)
+abbrev pub afterPart : Machine → Lent → List ℕ → PartHeard
+afterPart m lent bytes = cond (enough lent) (hearing m lent bytes) (record { after = notTaken m lent; call = Quiet; taken = 0 })
+
+-- PROTOCOL 1.11: the command that a call carries out: its data stands in the frame from its fourth byte on
+abbrev pub carriedBy : Call → List ℕ → List Message
+carriedBy Quiet frame = []
+carriedBy Nak frame = []
+carriedBy Again frame = []
+carriedBy (Order seq code n) frame = commandOf seq code (take n (drop 3 frame)) ∷ []

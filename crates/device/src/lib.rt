@@ -1,29 +1,33 @@
 // The device: a byte in; nothing, NAK or a whole answer out (PROTOCOL 1.1).
 use books::Books;
-use deeds::Deed;
-use kinds::Parsed;
 use line::Call;
 use line::Line;
 use line::Previous;
-use wire::Built;
-use wire::build;
 ghost use mathlib.Core.Path.{_≡_};
-ghost use Prim.Native.Nat.{_+_, _≤_, _<_, min};
+ghost use Prim.Native.Nat.{_≤_, _<_, min};
 ghost use lib.ListN.{length, take, drop};
 ghost use lib.Seq.{sets};
 ghost use Rattle.wire.specs.Frame.{commandOf};
 ghost use Rattle.line.specs.Turns.{lastAnswer};
 ghost use Rattle.line.specs.Calls.{beforeOf};
-ghost use Rattle.device.specs.Carrying.{deedFor, carry};
-ghost use Rattle.device.specs.Recording.{recording, toldIn};
+ghost use Rattle.reader.specs.Reading.{outside};
+ghost use Rattle.reader.specs.Fields.{readerOf};
+ghost use Rattle.line.specs.declared.Previous.the-variants.{Nothing};
+ghost use Rattle.books.specs.Books.{freshBooks};
+ghost use Rattle.carrying.specs.Carrying.{carry};
 ghost use Rattle.device.specs.Answering.{answering, orders};
-ghost use Rattle.device.specs.Hearing.{PartHeard, afterPart};
-ghost use Rattle.device.specs.Private.{AtLength, workOf, sizeOf, listedCall};
+ghost use Rattle.device.specs.Hearing.{afterOf, partOf, afterPart};
+ghost use Rattle.device.specs.Private.{AtLength};
+
+// What a device holds by value; its two arrays are lent with every call, as it left them.
+pub struct Device {
+    pub line: Line,
+    pub books: Books,
+}
 
 // What a byte brought: the device afterwards, the reply number, and how many bytes of the lent buffer are given back.
 pub struct Given {
-    pub line: Line,
-    pub books: Books,
+    pub device: Device,
     pub number: u64,
     pub count: usize,
 }
@@ -35,46 +39,43 @@ pub struct Hearing {
     pub taken: usize,
 }
 
-// A command carried out: the answer is the first `count` bytes of the lent buffer.
-pub struct Work {
-    pub number: u64,
-    pub books: Books,
-    pub count: usize,
-}
-
-// A recording heard: the books at the end, and how many bytes stand in the two lent buffers.
-pub struct Recorded {
-    pub books: Books,
-    pub given: usize,
-    pub listed: usize,
+// A device switched on for the first time.
+pub fn fresh() -> Device
+    ensures { λ r. ⌜ r ≡ record { line = record { reader = readerOf outside; previous = Nothing }; books = freshBooks } ⌝ }
+{
+    let line = line::fresh();
+    let books = books::fresh();
+    Device { line, books }
 }
 
 // Bytes of a lent part, up to and including the first that asks for something; what it gives back stands in `buf`. The bytes since 01h
-// stand in `frame`, the last answer in `last`: both are the device's own, as it left them. The books move only here, and once a call.
+// stand in `frame`, the last answer in `last`: both are the device's own, as it left them. The line's half first, then what it asks
+// for: the books move only there, and once a call.
 pub fn hear(
-    line: Line,
-    books: Books,
+    device: Device,
     frame: &mut [u8; 256],
     last: &mut [u8; 217],
     buf: &mut [u8],
     bytes: &[u8],
 ) -> Hearing
-    ensures { λ r. ⌜ record { hearing = r; frame = now (frame .exit); last = now (last .exit); buffer = now (buf .exit) } ≡ afterPart line books (now (frame .entry)) (now (last .entry)) (now (buf .entry)) (now (bytes .entry)) ⌝ }
+    ensures { λ r. ⌜ partOf r (now (frame .exit)) (now (last .exit)) (now (buf .exit)) ≡ afterPart (record { device = device; frame = now (frame .entry); last = now (last .entry) }) (record { buffer = now (buf .entry) }) (now (bytes .entry)) ⌝ }
     ensures { λ r. ⌜ r .given .count ≤ 217 ⌝ }
     ensures { λ r. ⌜ r .taken ≤ length (now (bytes .entry)) ⌝ }
     ensures { λ r. ⌜ (217 ≤ length (now (buf .entry)) → 0 < length (now (bytes .entry)) → 0 < r .taken) ⌝ }
 {
     if buf.len() < 217 {
         return Hearing {
-            given: gave(line, books, 7, 0),
+            given: gave(device, 7, 0),
             call: Call::Quiet,
             taken: 0,
         };
     }
+    let line = device.line;
+    let books = device.books;
     let listened = line::listen(line, frame, bytes);
     let next = listened.line;
     let call = listened.call;
-    let given = answer_call(next, books, call, &*frame, last, buf);
+    let given = answer_call(Device { line: next, books }, call, &*frame, last, buf);
     Hearing {
         given,
         call,
@@ -83,38 +84,37 @@ pub fn hear(
 }
 
 fn answer_call(
-    line: Line,
-    books: Books,
+    device: Device,
     call: Call,
     frame: &[u8],
     last: &mut [u8],
     buf: &mut [u8],
 ) -> Given
     requires { ⌜ AtLength (now frame) (now last) (now buf) ⌝ }
-    ensures { λ r. ⌜ record { given = r; frame = now (frame .entry); last = now (last .exit); buffer = now (buf .exit) } ≡ answering line books call (now (frame .entry)) (now (last .entry)) (now (buf .entry)) ⌝ }
+    ensures { λ r. ⌜ afterOf r (now (frame .entry)) (now (last .exit)) (now (buf .exit)) ≡ answering call (record { device = device; frame = now (frame .entry); last = now (last .entry) }) (record { buffer = now (buf .entry) }) ⌝ }
     ensures { λ r. ⌜ r .count ≤ 217 ⌝ }
 {
     match call {
-        Call::Quiet => gave(line, books, 0, 0),
+        Call::Quiet => gave(device, 0, 0),
         Call::Nak => {
             text::put_byte(buf, 0, 0x15);
-            gave(line, books, 5, 1)
+            gave(device, 5, 1)
         }
         Call::Again => {
+            let line = device.line;
             let previous = line.previous;
             let count = again(previous, &*last, buf);
-            gave(line, books, 6, count)
+            gave(device, 6, count)
         }
-        Call::Order { seq, code, count } => order(line, books, seq, code, count, frame, last, buf),
+        Call::Order { seq, code, count } => order(device, seq, code, count, frame, last, buf),
     }
 }
 
-fn gave(line: Line, books: Books, number: u64, count: usize) -> Given
-    ensures { λ r. ⌜ r ≡ record { line = line; books = books; number = number; count = count } ⌝ }
+fn gave(device: Device, number: u64, count: usize) -> Given
+    ensures { λ r. ⌜ r ≡ record { device = device; number = number; count = count } ⌝ }
 {
     Given {
-        line,
-        books,
+        device,
         number,
         count,
     }
@@ -150,8 +150,7 @@ fn again(previous: Previous, last: &[u8], buf: &mut [u8]) -> usize
 
 // A command whose n data bytes stand in the frame from its fourth byte on.
 fn order(
-    line: Line,
-    books: Books,
+    device: Device,
     seq: u8,
     code: u8,
     n: usize,
@@ -160,139 +159,25 @@ fn order(
     buf: &mut [u8],
 ) -> Given
     requires { ⌜ AtLength (now frame) (now last) (now buf) ⌝ }
-    ensures { λ r. ⌜ record { given = r; frame = now (frame .entry); last = now (last .exit); buffer = now (buf .exit) } ≡ orders line seq code (carry books (commandOf seq code (take n (drop 3 (now (frame .entry)))))) (now (frame .entry)) (now (last .entry)) (now (buf .entry)) ⌝ }
+    ensures { λ r. ⌜ afterOf r (now (frame .entry)) (now (last .exit)) (now (buf .exit)) ≡ orders seq code (carry (record { books = device .books }) (commandOf seq code (take n (drop 3 (now (frame .entry)))))) (record { device = device; frame = now (frame .entry); last = now (last .entry) }) (record { buffer = now (buf .entry) }) ⌝ }
     ensures { λ r. ⌜ r .count ≤ 217 ⌝ }
 {
     let end = least(n, 253) + 3;
-    let work = carry_out(books, seq, code, &frame[3..end], buf);
+    let books = device.books;
+    let work = carrying::carry_out(books, seq, code, &frame[3..end], buf);
     let count = work.count;
     let after = work.books;
     text::put_bytes(last, 0, &buf[0..count]);
+    let line = device.line;
     let reader = line.reader;
     let previous = Previous::Frame { seq, code, count };
-    gave(Line { reader, previous }, after, work.number, count)
-}
-
-// The whole answer of a command, built in the lent buffer.
-fn carry_out(books: Books, seq: u8, code: u8, content: &[u8], buf: &mut [u8]) -> Work
-    requires { ⌜ 217 ≤ length (now buf) ⌝ }
-    ensures { λ r. ⌜ r ≡ workOf (carry books (commandOf seq code (now (content .entry)))) ⌝ }
-    ensures { λ r. ⌜ now (buf .exit) ≡ sets (now (buf .entry)) 0 (carry books (commandOf seq code (now (content .entry))) .answer) ⌝ }
-    ensures { λ r. ⌜ r .count ≤ 217 ⌝ }
-{
-    let deed = deed_for(books, command::parse(code, content));
-    let day = books.day;
-    let shown = deed.shown;
-    let number = deed.number;
-    let after = deed.books;
-    let sums = after.day;
-    let receipt = after.receipt;
-    let groups = receipt.groups;
-    sized(day, sums, groups);
-    let n = answers::show(shown, day, after, buf);
-    let status = answers::status(number, after);
-    let built = build::seal_answer(buf, seq, code, n, status);
-    Work {
-        number,
-        books: after,
-        count: size_of(built),
-    }
-}
-
-// What the types say, for the proof: an answer's length rests on eight sums each.
-fn sized(day: [u64; 8], sums: [u64; 8], groups: [u64; 8]) -> bool
-    ensures { λ r. ⌜ (length day ≡ 8) × (length sums ≡ 8) × (length groups ≡ 8) ⌝ }
-{
-    true
-}
-
-fn deed_for(books: Books, parsed: Parsed) -> Deed
-    ensures { λ r. ⌜ r ≡ deedFor books parsed ⌝ }
-{
-    match parsed {
-        Parsed::Read(c) => deeds::carry_out(books, c),
-        Parsed::Syntax => deeds::refuse(1, books),
-        Parsed::Unknown => deeds::refuse(2, books),
-    }
-}
-
-fn size_of(built: Built) -> usize
-    ensures { λ r. ⌜ r ≡ sizeOf built ⌝ }
-{
-    match built {
-        Built::Frame(n) => n,
-        Built::Short => 0,
-        Built::Unsendable => 0,
-    }
-}
-
-// A recorded session, heard by a fresh device that is always lent its 217 bytes. What it gives back goes into `out`, the commands
-// carried out into `orders`, as far as each reaches.
-pub fn hear_all(bytes: &[u8], out: &mut [u8], orders: &mut [u8]) -> Recorded
-    ensures { λ r. ⌜ record { recorded = r; out = now (out .exit); orders = now (orders .exit) } ≡ toldIn (now (out .entry)) (now (orders .entry)) (recording (now (bytes .entry))) ⌝ }
-{
-    let mut frame = [0u8; 256];
-    let mut last = [0u8; 217];
-    let mut buf = [0u8; 217];
-    let mut line = line::fresh();
-    let mut books = books::fresh();
-    let mut written: usize = 0;
-    let mut listed: usize = 0;
-    let mut i = 0;
-    while i < bytes.len() {
-        let part = &bytes[i..bytes.len()];
-        let heard = hear(line, books, &mut frame, &mut last, &mut buf, part);
-        let given = heard.given;
-        let call = heard.call;
-        let next = given.line;
-        let after = given.books;
-        let count = given.count;
-        listed = list_call(call, &frame, orders, listed);
-        written = append(out, written, &buf[0..count]);
-        line = next;
-        books = after;
-        i += heard.taken;
-    }
-    Recorded {
-        books,
-        given: written,
-        listed,
-    }
-}
-
-// The bytes behind those that stand already; past the end nothing is written.
-fn append(out: &mut [u8], at: usize, src: &[u8]) -> usize
-    ensures { λ r. ⌜ r ≡ min (at + length (now (src .entry))) (length (now (out .entry))) ⌝ }
-    ensures { λ r. ⌜ now (out .exit) ≡ sets (now (out .entry)) at (now (src .entry)) ⌝ }
-{
-    let size = out.len();
-    text::put_bytes(out, at, src);
-    if size <= at {
-        return size;
-    }
-    if size - at < src.len() {
-        return size;
-    }
-    at + src.len()
-}
-
-// A command carried out, listed behind the others.
-fn list_call(call: Call, frame: &[u8], orders: &mut [u8], at: usize) -> usize
-    requires { ⌜ length (now frame) ≡ 256 ⌝ }
-    requires { ⌜ at ≤ length (now orders) ⌝ }
-    ensures { λ r. ⌜ r ≡ min (at + length (listedCall call (now (frame .entry)))) (length (now (orders .entry))) ⌝ }
-    ensures { λ r. ⌜ now (orders .exit) ≡ sets (now (orders .entry)) at (listedCall call (now (frame .entry))) ⌝ }
-{
-    match call {
-        Call::Quiet => at,
-        Call::Nak => at,
-        Call::Again => at,
-        Call::Order { seq, code, count } => {
-            let n = least(count, 253);
-            let end = n + 3;
-            let head = [seq, code, (n % 256) as u8];
-            let behind = append(orders, at, &head);
-            append(orders, behind, &frame[3..end])
-        }
-    }
+    let next = Line { reader, previous };
+    gave(
+        Device {
+            line: next,
+            books: after,
+        },
+        work.number,
+        count,
+    )
 }

@@ -39,7 +39,7 @@ order-requires c κs = search needs
 returns : tie.Need-returns
 returns c =
     let a = c .before .before .before .before .before .before .args in
-    (call-quiet (a .line) (a .books) (a .call) (now (a .frame)) (now (a .last)) (now (a .buf)) (c .gave .result) (c .gave .ensures) (c .before .enum-told .given .1), omega (arith, ap (λ z. z .count) (c .gave .ensures)))
+    (call-quiet (a .device) (a .call) (now (a .frame)) (now (a .last)) (now (a .buf)) (c .gave .result) (c .gave .ensures) (c .before .enum-told .given .1), omega (arith, ap (λ z. z .count) (c .gave .ensures)))
 
 same-length : tie.Need-same-length
 same-length c = search needs
@@ -47,7 +47,7 @@ same-length c = search needs
 returns-2 : tie.Need-returns-2
 returns-2 c =
     let a = c .before .before .before .before .before .before .before .before .before .before .args in
-    (call-nak (a .line) (a .books) (a .call) (now (a .frame)) (now (a .last)) (now (a .buf)) (c .gave2 .result) _ (c .gave2 .ensures) (c .before .before .before .put-byte .ensures) (c .before .before .before .before .before .enum-told2 .given .1), omega (arith, ap (λ z. z .count) (c .gave2 .ensures)))
+    (call-nak (a .device) (a .call) (now (a .frame)) (now (a .last)) (now (a .buf)) (c .gave2 .result) _ (c .gave2 .ensures) (c .before .before .before .put-byte .ensures) (c .before .before .before .before .before .enum-told2 .given .1), omega (arith, ap (λ z. z .count) (c .gave2 .ensures)))
 
 same-length-2 : tie.Need-same-length-2
 same-length-2 c = search needs
@@ -57,8 +57,12 @@ same-length-3 c = search needs
 
 returns-3 : tie.Need-returns-3
 returns-3 c =
-    let a = c .before .before .before .before .before .before .before .before .before .before .before .args in
-    (call-again (a .line) (a .books) (a .call) (now (a .frame)) (now (a .last)) (now (a .buf)) (c .gave3 .result) (c .before .before .before .again .result) _ (c .gave3 .ensures) (c .before .before .before .again .ensures .0) (c .before .before .before .again .ensures .1) (c .before .before .before .before .before .before .enum-told3 .given .1), omega (arith, ap (λ z. z .count) (c .gave3 .ensures), c .before .before .before .again .ensures .0, again-few (a .line .previous) (now (a .last)) (c .before .before .before .before .before .before .before .before .before .before .before .pre .lasts)))
+    let start = c .before .before .before .before .before .before .before .before .before .before .before .before in
+    let a = start .args in
+    let told = c .before .before .before .again in (
+      call-again (a .device) (a .call) (now (a .frame)) (now (a .last)) (now (a .buf)) (c .gave3 .result) (told .result) _ (c .gave3 .ensures) (told .ensures .0) (told .ensures .1) (c .before .before .before .before .before .before .before .enum-told3 .given .1),
+      omega (arith, ap (λ z. z .count) (c .gave3 .ensures), told .ensures .0, again-few (a .device .line .previous) (now (a .last)) (start .pre .lasts)),
+    )
 
 same-length-4 : tie.Need-same-length-4
 same-length-4 c = search needs
@@ -69,7 +73,8 @@ same-length-5 c = search needs
 returns-4 : tie.Need-returns-4
 returns-4 c =
     let a = c .before .before .before .before .before .before .before .before .before .before .before .before .before .args in
-    (call-order (a .line) (a .books) (a .call) (now (a .frame)) (now (a .last)) (now (a .buf)) _ _ _ _ (c .before .before .before .before .order .ensures .0) (c .before .before .before .before .before .before .before .before .call .given .1), c .before .before .before .before .order .ensures .1)
+    let done = c .before .before .before .before .order in
+    (call-order (a .device) (a .call) (now (a .frame)) (now (a .last)) (now (a .buf)) _ _ _ _ (done .ensures .0) (c .before .before .before .before .before .before .before .before .call .given .1), done .ensures .1)
 
 pub answer-call-spec : {M : Type 1} → statement M
 answer-call-spec =

@@ -9,47 +9,36 @@ use Rattle.device.proofs.Parts.{part-short, part-heard}
 use borrow.Author.Needs.{needs}
 use Rattle.device.proofs.hear.Statement.{statement}
 use Rattle.device.proofs.hear.Tie as tie
-use Rattle.device.proofs.hear.Reads as reads
-use Rattle.device.proofs.hear.Lts as lts
-use Rattle.device.proofs.answer_call.Reads as answer-call-reads
-use Rattle.device.proofs.gave.Reads as gave-reads
-use Rattle.line.proofs.listen.Reads as listen-reads
 
--- src/lib.rt:68:20
 gave-requires : tie.Need-gave-requires
 gave-requires c κs = search needs
 
--- src/lib.rt:67:9
 returns : tie.Need-returns
 returns c =
     let a = c .before .before .before .before .args in
-    (part-short (a .line) (a .books) (now (a .frame)) (now (a .last)) (now (a .buf)) (now (a .bytes)) (c .gave .result) (c .gave .ensures) (c .before .if1 .taken), (omega (arith, ap (λ z. z .count) (c .gave .ensures)), (omega arith, λ long some. absurd (omega (arith, long, c .before .if1 .taken)))))
+    (part-short (record { device = a .device; frame = now (a .frame); last = now (a .last) }) (record { buffer = now (a .buf) }) (now (a .bytes)) (c .gave .result) (c .gave .ensures) (c .before .if1 .taken), (omega (arith, ap (λ z. z .count) (c .gave .ensures)), (omega arith, λ long some. absurd (omega (arith, long, c .before .if1 .taken)))))
 
--- src/lib.rt:73:9
 listen-requires : tie.Need-listen-requires
 listen-requires c κs = search needs
 
--- src/lib.rt:76:9
 answer-call-requires : tie.Need-answer-call-requires
 answer-call-requires c κs = search needs
 
--- src/lib.rt:54:1
 same-length : tie.Need-same-length
 same-length c = search needs
 
--- src/lib.rt:54:1
 returns-2 : tie.Need-returns-2
 returns-2 c =
-    let a = c .before .before .before .before .before .before .before .before .before .before .before .before .before .args in
+    let else = c .before .before .before .before .before .before .before .before .before .before .before .before in
+    let a = else .before .before .before .args in
     let heard = c .before .before .before .before .before .before .before .before .listen in
     let told = c .before .before .answer-call in (
-      part-heard (a .line) (a .books) (now (a .frame)) (now (a .last)) (now (a .buf)) (now (a .bytes)) (heard .result) _ _ (heard .ensures .0) (heard .ensures .1) (told .ensures .0)
-          (c .before .before .before .before .before .before .before .before .before .before .if1 .left),
+      part-heard (record { device = a .device; frame = now (a .frame); last = now (a .last) }) (record { buffer = now (a .buf) }) (now (a .bytes)) (heard .result) _ _ (heard .ensures .0) (heard .ensures .1) (told .ensures .0) (else .if1 .left),
       (
         told .ensures .1,
         (
-          subst (λ (z : Listened). z .taken ≤ length (now (a .bytes))) (sym (heard .ensures .0)) (listened-within (now (a .bytes)) (a .line) (now (a .frame))),
-          λ long some. subst (λ (z : Listened). 0 < z .taken) (sym (heard .ensures .0)) (listened-some (now (a .bytes)) (a .line) (now (a .frame)) some),
+          subst (λ (z : Listened). z .taken ≤ length (now (a .bytes))) (sym (heard .ensures .0)) (listened-within (now (a .bytes)) (a .device .line) (now (a .frame))),
+          λ long some. subst (λ (z : Listened). 0 < z .taken) (sym (heard .ensures .0)) (listened-some (now (a .bytes)) (a .device .line) (now (a .frame)) some),
         ),
       ),
     )

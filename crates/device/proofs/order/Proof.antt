@@ -31,7 +31,9 @@ part-put-bytes-start : tie.Need-part-put-bytes-start
 part-put-bytes-start c = search needs
 
 part-put-bytes-end : tie.Need-part-put-bytes-end
-part-put-bytes-end c = omega (arith, c .before .before .before .before .before .carry-out .ensures .1 .1, c .before .before .before .before .before .before .before .before .before .before .before .before .pre .room)
+part-put-bytes-end c =
+    let start = c .before .before .before .before .before .before .before .before .before .before .before .before .before in
+    omega (arith, c .before .before .before .before .before .carry-out .ensures .1, start .pre .room)
 
 put-bytes-requires : tie.Need-put-bytes-requires
 put-bytes-requires c κs = search needs
@@ -47,9 +49,14 @@ same-length-2 c = search needs
 
 returns : tie.Need-returns
 returns c =
-    let a = c .before .before .before .before .before .before .before .before .before .before .before .before .before .before .before .before .before .before .args in (
-      rw (c .gave .ensures) (order-is (a .line) (a .books) (a .seq) (a .code) (a .n) (c .before .before .before .before .before .before .before .before .before .before .before .before .before .before .least .result) (now (a .frame)) (c .before .before .before .before .before .before .before .before .before .before .before .carry-out .result) (c .before .before .before .before .before .before .before .before .before .before .before .before .before .before .before .before .before .before .pre .frames) (c .before .before .before .before .before .before .before .before .before .before .before .before .before .before .least .ensures) (c .before .before .before .before .before .before .before .before .before .before .before .carry-out .ensures .0) (now (a .last)) (now (a .buf)) _ _ (c .before .before .before .before .before .before .before .before .before .before .before .carry-out .ensures .1 .1) (c .before .before .before .before .before .before .before .before .before .before .before .before .before .before .before .before .before .before .pre .room) (c .before .before .before .before .before .before .before .before .before .before .before .carry-out .ensures .1 .0) (c .before .before .before .before .put-bytes .ensures)),
-      omega (arith, c .before .before .before .before .before .before .before .before .before .before .before .carry-out .ensures .1 .1, ap (λ z. z .count) (c .gave .ensures)),
+    let start = c .before .before .before .before .before .before .before .before .before .before .before .before .before .before .before .before .before .before .before .before in
+    let a = start .args in
+    let work = c .before .before .before .before .before .before .before .before .before .before .before .before .carry-out in
+    let cut = c .before .before .before .before .before .before .before .before .before .before .before .before .before .before .before .before .least in
+    let kept = c .before .before .before .before .before .put-bytes in (
+      order-is (a .device) (a .seq) (a .code) (a .n) (cut .result) (now (a .frame)) (now (a .last)) (now (a .buf)) (work .result) _ _ (start .pre .frames) (start .pre .room) (cut .ensures)
+          (work .ensures .0) (work .ensures .1) (kept .ensures) (c .gave .result) (c .gave .ensures),
+      omega (arith, work .ensures .1, ap (λ z. z .count) (c .gave .ensures)),
     )
 
 pub order-spec : {M : Type 1} → statement M

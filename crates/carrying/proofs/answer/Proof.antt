@@ -4,11 +4,11 @@ use denote.Ref.{now}
 use Rattle.answers.specs.Contents.{contentOf}
 use Rattle.answers.specs.Status.{statusOf}
 use Rattle.answers.proofs.Shown.{shown-short, status-six}
-use Rattle.device.proofs.Working.{seal-size, seal-bytes, work-is, work-bytes}
-use Rattle.device.specs.Carrying.{deedFor}
+use Rattle.carrying.proofs.Working.{seal-size, seal-bytes, work-is}
+use Rattle.carrying.specs.Carrying.{deedFor}
 use borrow.Author.Needs.{needs}
-use Rattle.device.proofs.carry_out.Statement.{statement}
-use Rattle.device.proofs.carry_out.Tie as tie
+use Rattle.carrying.proofs.answer.Statement.{statement}
+use Rattle.carrying.proofs.answer.Tie as tie
 
 parse-requires : tie.Need-parse-requires
 parse-requires c κs = search needs
@@ -45,15 +45,12 @@ returns c =
     let status = statusOf (d .number) (d .books) in
     let size = seal-size (now (a .buf)) content status (c .before .before .before .before .before .status .result) (a .seq) (a .code) (c .before .before .before .before .before .before .before .before .show .result) _ _ (c .before .before .before .seal-answer .result) (c .before .before .before .before .before .before .before .before .before .before .before .before .before .before .before .before .before .before .before .before .pre) few six (c .before .before .before .before .before .before .before .before .show .ensures .0) (c .before .before .before .before .before .before .before .before .show .ensures .1) (c .before .before .before .before .before .status .ensures) (c .before .before .before .seal-answer .ensures) in
     let bytes = seal-bytes (now (a .buf)) content status (c .before .before .before .before .before .status .result) (a .seq) (a .code) (c .before .before .before .before .before .before .before .before .show .result) _ _ (c .before .before .before .seal-answer .result) (c .before .before .before .before .before .before .before .before .before .before .before .before .before .before .before .before .before .before .before .before .pre) few six (c .before .before .before .before .before .before .before .before .show .ensures .0) (c .before .before .before .before .before .before .before .before .show .ensures .1) (c .before .before .before .before .before .status .ensures) (c .before .before .before .seal-answer .ensures) in (
-      work-is (a .books) (a .seq) (a .code) (now (a .content)) d made (c .size-of .result) (c .size-of .ensures ∙ size .0),
-      (
-        work-bytes (a .books) (a .seq) (a .code) (now (a .content)) d made (now (a .buf)) _ bytes,
-        omega (arith, c .size-of .ensures, size .1),
-      ),
+      work-is (a .books) (a .seq) (a .code) (now (a .content)) d made (c .size-of .result) (now (a .buf)) _ (c .size-of .ensures ∙ size .0) bytes,
+      omega (arith, c .size-of .ensures, size .1),
     )
 
-pub carry-out-spec : {M : Type 1} → statement M
-carry-out-spec =
+pub answer-spec : {M : Type 1} → statement M
+answer-spec =
     tie.close
     (tie.spec
     parse-requires

@@ -1,8 +1,8 @@
 use mathlib.Core.Path.{sym, ap, _∙_}
-use Rattle.device.specs.Carrying.{deedFor}
+use Rattle.carrying.specs.Carrying.{deedFor}
 use borrow.Author.Needs.{needs}
-use Rattle.device.proofs.deed_for.Statement.{statement}
-use Rattle.device.proofs.deed_for.Tie as tie
+use Rattle.carrying.proofs.deed_for.Statement.{statement}
+use Rattle.carrying.proofs.deed_for.Tie as tie
 
 enum-known-parsed : tie.Need-enum-known-parsed
 enum-known-parsed c = search needs

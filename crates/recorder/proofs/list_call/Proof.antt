@@ -1,10 +1,11 @@
 use mathlib.Core.Path.{ap}
 use denote.Ref.{now}
-use Rattle.device.specs.Private.{listedCall}
-use Rattle.device.proofs.Listening.{list-none, list-order}
+use Rattle.device.specs.Hearing.{carriedBy}
+use Rattle.recorder.specs.Recording.{listing}
+use Rattle.recorder.proofs.Listening.{list-none, list-order}
 use borrow.Author.Needs.{needs}
-use Rattle.device.proofs.list_call.Statement.{statement}
-use Rattle.device.proofs.list_call.Tie as tie
+use Rattle.recorder.proofs.list_call.Statement.{statement}
+use Rattle.recorder.proofs.list_call.Tie as tie
 
 enum-told : tie.Need-enum-told
 enum-told c = search needs
@@ -46,13 +47,13 @@ append-requires-2 : tie.Need-append-requires-2
 append-requires-2 c κs = search needs
 
 returns : tie.Need-returns
-returns c = list-none (c .before .before .before .before .args .call) (now (c .before .before .before .before .args .frame)) (now (c .before .before .before .before .args .orders)) (c .before .before .before .before .args .at) (ap (λ z. listedCall z (now (c .before .before .before .before .args .frame))) (c .enum-told .given .1)) (c .before .before .before .before .pre .1)
+returns c = list-none (c .before .before .before .before .args .call) (now (c .before .before .before .before .args .frame)) (now (c .before .before .before .before .args .orders)) (c .before .before .before .before .args .at) (ap (λ z. listing (carriedBy z (now (c .before .before .before .before .args .frame)))) (c .enum-told .given .1)) (c .before .before .before .before .pre .1)
 
 returns-2 : tie.Need-returns-2
-returns-2 c = list-none (c .before .before .before .before .args .call) (now (c .before .before .before .before .args .frame)) (now (c .before .before .before .before .args .orders)) (c .before .before .before .before .args .at) (ap (λ z. listedCall z (now (c .before .before .before .before .args .frame))) (c .enum-told2 .given .1)) (c .before .before .before .before .pre .1)
+returns-2 c = list-none (c .before .before .before .before .args .call) (now (c .before .before .before .before .args .frame)) (now (c .before .before .before .before .args .orders)) (c .before .before .before .before .args .at) (ap (λ z. listing (carriedBy z (now (c .before .before .before .before .args .frame)))) (c .enum-told2 .given .1)) (c .before .before .before .before .pre .1)
 
 returns-3 : tie.Need-returns-3
-returns-3 c = list-none (c .before .before .before .before .args .call) (now (c .before .before .before .before .args .frame)) (now (c .before .before .before .before .args .orders)) (c .before .before .before .before .args .at) (ap (λ z. listedCall z (now (c .before .before .before .before .args .frame))) (c .enum-told3 .given .1)) (c .before .before .before .before .pre .1)
+returns-3 c = list-none (c .before .before .before .before .args .call) (now (c .before .before .before .before .args .frame)) (now (c .before .before .before .before .args .orders)) (c .before .before .before .before .args .at) (ap (λ z. listing (carriedBy z (now (c .before .before .before .before .args .frame)))) (c .enum-told3 .given .1)) (c .before .before .before .before .pre .1)
 
 same-length : tie.Need-same-length
 same-length c = search needs

@@ -1,5 +1,6 @@
 -- PROTOCOL 1.11: a whole frame carried out. Its command is judged and answered, one that is refused (1 to 4) too.
 use Prim.Native.Nat.{ℕ}
+use mathlib.Core.List.{[]}
 use Rattle.wire.specs.Frame.{Message, answerOf, frame}
 use Rattle.wire.specs.declared.Kind.the-variants.{Answer}
 use Rattle.kinds.specs.Fields.{parsedNumber}
@@ -12,6 +13,7 @@ use Rattle.deeds.specs.declared.Deed.{Deed}
 use Rattle.answers.specs.Contents.{contentOf}
 use Rattle.answers.specs.Status.{statusOf}
 use Rattle.line.specs.Turns.{Carried}
+use Rattle.store.specs.Store.{Store}
 
 -- PROTOCOL 2.2: 2 and 1 are told before the books are asked for 3 and 4
 abbrev pub deedFor : Books → Parsed → Deed
@@ -23,9 +25,11 @@ deedFor b Unknown = refusedWith (parsedNumber Unknown) b
 abbrev pub answerTo : Books → ℕ → ℕ → Deed → Message
 answerTo b seq code d = answerOf seq code (contentOf (d .shown) (b .day) (d .books)) (statusOf (d .number) (d .books))
 
-abbrev pub carriedAs : Books → ℕ → ℕ → Deed → Carried Books
-carriedAs b seq code d = record { number = d .number; books = d .books; answer = frame Answer (answerTo b seq code d) }
+-- DECISIONS 62: no answer has a lead
+abbrev pub carriedAs : Store → ℕ → ℕ → Deed → Carried Store
+carriedAs s seq code d =
+    record { number = d .number; store = record { books = d .books }; lead = []; answer = frame Answer (answerTo (s .books) seq code d) }
 
--- PROTOCOL 1.11: a command carried out on the books
-abbrev pub carry : Books → Message → Carried Books
-carry b m = carriedAs b (m .seq) (m .code) (deedFor b (parsedOf (m .code) (m .content)))
+-- PROTOCOL 1.11: a command carried out on what a device remembers
+abbrev pub carry : Store → Message → Carried Store
+carry s m = carriedAs s (m .seq) (m .code) (deedFor (s .books) (parsedOf (m .code) (m .content)))

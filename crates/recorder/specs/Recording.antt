@@ -4,14 +4,13 @@ use mathlib.Core.List.{List, [], _∷_, _++_}
 use lib.ListN.{length}
 use lib.Seq.{sets}
 use Rattle.wire.specs.Frame.{Message}
-use Rattle.books.specs.Books.{freshBooks}
-use Rattle.books.specs.declared.Books.{Books}
 use Rattle.line.specs.Turns.{Session, session, switchedOn}
-use Rattle.device.specs.Carrying.{carry}
-use Rattle.device.specs.declared.Recorded.{Recorded}
+use Rattle.store.specs.Store.{Store, freshStore}
+use Rattle.carrying.specs.Carrying.{carry}
+use Rattle.recorder.specs.declared.Recorded.{Recorded}
 
-abbrev pub recording : List ℕ → Session Books
-recording bytes = session carry (switchedOn freshBooks) bytes
+abbrev pub recording : List ℕ → Session Store
+recording bytes = session carry (switchedOn freshStore) bytes
 
 -- DECISIONS 32: a command in the list of those carried out: SEQ, CMD, the number of its data bytes, the data. PROTOCOL 1.2: there are at most 200, so that one
 -- byte holds the number.
@@ -28,10 +27,10 @@ pub record Told : Type 0 where
   pub out : List ℕ
   pub orders : List ℕ
 
-abbrev pub toldIn : List ℕ → List ℕ → Session Books → Told
+abbrev pub toldIn : List ℕ → List ℕ → Session Store → Told
 toldIn out orders s =
     record {
-      recorded = record { books = s .state .books; given = min (length (s .gives)) (length out); listed = min (length (listing (s .carried))) (length orders) };
+      recorded = record { books = s .state .store .books; given = min (length (s .gives)) (length out); listed = min (length (listing (s .carried))) (length orders) };
       out = sets out 0 (s .gives);
       orders = sets orders 0 (listing (s .carried));
     }

@@ -1,0 +1,1 @@
+// What commands work on, as one record. Definitions alone; no code of its own.
