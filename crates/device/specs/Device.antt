@@ -6,11 +6,13 @@ use lib.Dec.{leb}
 use lib.ListN.{length}
 use lib.Seq.{sets}
 use Rattle.wire.specs.Frame.{Message}
+use Rattle.reader.specs.Reading.{outside}
 use Rattle.reader.specs.Fields.{placeOf, readerOf, keptIn}
 use Rattle.line.specs.Turns.{Before, State, Turn, turn, lastAnswer}
 use Rattle.line.specs.Calls.{beforeOf}
 use Rattle.line.specs.declared.Previous.{Previous}
-use Rattle.line.specs.declared.Previous.the-variants.{Frame}
+use Rattle.line.specs.declared.Previous.the-variants.{Nothing, Frame}
+use Rattle.books.specs.Books.{freshBooks}
 use Rattle.store.specs.Store.{Store}
 use Rattle.carrying.specs.Carrying.{carry}
 use Rattle.device.specs.declared.Device.{Device}
@@ -28,6 +30,10 @@ pub record Machine : Type 0 where
   pub device : Device
   pub frame : List ℕ
   pub last : List ℕ
+
+-- PROTOCOL 8.4: the fields of a fresh device
+abbrev pub freshFields : Device
+freshFields = record { line = record { reader = readerOf outside; previous = Nothing }; books = freshBooks }
 
 -- PROTOCOL 8.3: what commands work on, as the device's fields and arrays say it
 abbrev pub storeOf : Machine → Store

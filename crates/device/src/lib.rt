@@ -10,11 +10,8 @@ ghost use lib.Seq.{sets};
 ghost use Rattle.wire.specs.Frame.{commandOf};
 ghost use Rattle.line.specs.Turns.{lastAnswer};
 ghost use Rattle.line.specs.Calls.{beforeOf};
-ghost use Rattle.reader.specs.Reading.{outside};
-ghost use Rattle.reader.specs.Fields.{readerOf};
-ghost use Rattle.line.specs.declared.Previous.the-variants.{Nothing};
-ghost use Rattle.books.specs.Books.{freshBooks};
 ghost use Rattle.carrying.specs.Carrying.{carry};
+ghost use Rattle.device.specs.Device.{freshFields};
 ghost use Rattle.device.specs.Answering.{answering, orders};
 ghost use Rattle.device.specs.Hearing.{afterOf, partOf, afterPart};
 ghost use Rattle.device.specs.Private.{AtLength};
@@ -41,7 +38,7 @@ pub struct Hearing {
 
 // A device switched on for the first time.
 pub fn fresh() -> Device
-    ensures { λ r. ⌜ r ≡ record { line = record { reader = readerOf outside; previous = Nothing }; books = freshBooks } ⌝ }
+    ensures { λ r. ⌜ r ≡ freshFields ⌝ }
 {
     let line = line::fresh();
     let books = books::fresh();

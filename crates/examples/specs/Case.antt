@@ -6,10 +6,9 @@ use mathlib.Core.List.{List, [], _∷_, _++_, map}
 use lib.ListN.{length, set}
 use Rattle.wire.specs.Frame.{Message, commandOf, answerOf, frame}
 use Rattle.wire.specs.declared.Kind.the-variants.{Command, Answer}
-use Rattle.books.specs.Books.{freshBooks}
-use Rattle.books.specs.declared.Books.{Books}
+use Rattle.store.specs.Store.{Store, freshStore}
 use Rattle.line.specs.Turns.{State, switchedOn, session}
-use Rattle.device.specs.Carrying.{carry}
+use Rattle.carrying.specs.Carrying.{carry}
 
 -- a text as bytes, one for each character; \t is Tab
 abbrev pub bytes : string.String → List ℕ
@@ -45,7 +44,7 @@ abbrev pub marked : ℕ → ℕ → Listed
 marked seq code = record { seq = seq; code = code }
 
 -- the same device, exchange by exchange: what it hears, with what it gives back
-abbrev pub exchanged : State Books → List Exchange → List Exchange
+abbrev pub exchanged : State Store → List Exchange → List Exchange
 exchanged s [] = []
 exchanged s (e ∷ es) =
     let now = session carry s (e .hears) in
@@ -56,9 +55,9 @@ heardInAll [] = []
 heardInAll (e ∷ es) = e .hears ++ heardInAll es
 
 abbrev pub allMarked : List Exchange → List Listed
-allMarked es = map (λ m. marked (m .seq) (m .code)) (session carry (switchedOn freshBooks) (heardInAll es) .carried)
+allMarked es = map (λ m. marked (m .seq) (m .code)) (session carry (switchedOn freshStore) (heardInAll es) .carried)
 
 -- a case worked out: what it says is sent, given back and carried out, by the definitions
 abbrev pub worked : Case → Case
 worked (built number command sent) = built number command (frame Command command)
-worked (talk number exchanges done) = talk number (exchanged (switchedOn freshBooks) exchanges) (allMarked exchanges)
+worked (talk number exchanges done) = talk number (exchanged (switchedOn freshStore) exchanges) (allMarked exchanges)

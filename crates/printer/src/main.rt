@@ -1,17 +1,15 @@
 // A fresh device on a line: the raw bytes that it receives on standard input, all that it gives back on standard output, as soon as it
 // is there.
-use books::Books;
+use device::Device;
 use device::Hearing;
 use libc::STDIN_FILENO;
 use libc::STDOUT_FILENO;
-use line::Line;
 ghost use Prim.Native.Nat.{_≤_, _<_};
 ghost use lib.ListN.{length};
 
 // The device behind a chunk of bytes, and whether all that it gave back was written.
 struct Stand {
-    line: Line,
-    books: Books,
+    device: Device,
     written: bool,
 }
 
@@ -24,8 +22,7 @@ struct Done {
 fn main() {
     let mut frame = [0u8; 256];
     let mut last = [0u8; 217];
-    let mut line = line::fresh();
-    let mut books = books::fresh();
+    let mut device = device::fresh();
     let mut turns = 9223372036854775807u64;
     while turns > 0 {
         let mut chunk = [0u8; 4096];
@@ -33,14 +30,12 @@ fn main() {
         if n == 0 {
             return;
         }
-        let stand = answer(line, books, &mut frame, &mut last, &chunk, n);
+        let stand = answer(device, &mut frame, &mut last, &chunk, n);
         if !stand.written {
             return;
         }
-        let next = stand.line;
-        let after = stand.books;
-        line = next;
-        books = after;
+        let next = stand.device;
+        device = next;
         turns -= 1;
     }
 }
@@ -56,42 +51,38 @@ fn some(chunk: &mut [u8]) -> usize {
 
 // The first n bytes of a chunk, call by call.
 fn answer(
-    line: Line,
-    books: Books,
+    device: Device,
     frame: &mut [u8; 256],
     last: &mut [u8; 217],
     chunk: &[u8],
     n: usize,
 ) -> Stand {
-    let mut at = line;
-    let mut kept = books;
+    let mut at = device;
     let mut i = 0;
     while i < n {
         if chunk.len() < n {
-            return stands(at, kept, false);
+            return stands(at, false);
         }
-        let called = call(at, kept, frame, last, &chunk[i..n]);
+        let called = call(at, frame, last, &chunk[i..n]);
         let heard = called.heard;
         let given = heard.given;
-        let next = given.line;
-        let after = given.books;
+        let next = given.device;
         at = next;
-        kept = after;
         i += heard.taken;
         if !called.written {
-            return stands(at, kept, false);
+            return stands(at, false);
         }
     }
-    stands(at, kept, true)
+    stands(at, true)
 }
 
 // One call, and what it gives back written out at once.
-fn call(line: Line, books: Books, frame: &mut [u8; 256], last: &mut [u8; 217], bytes: &[u8]) -> Done
+fn call(device: Device, frame: &mut [u8; 256], last: &mut [u8; 217], bytes: &[u8]) -> Done
     ensures { λ r. ⌜ r .heard .taken ≤ length (now (bytes .entry)) ⌝ }
     ensures { λ r. ⌜ (0 < length (now (bytes .entry)) → 0 < r .heard .taken) ⌝ }
 {
     let mut buf = [0u8; 217];
-    let heard = device::hear(line, books, frame, last, &mut buf, bytes);
+    let heard = device::hear(device, frame, last, &mut buf, bytes);
     let given = heard.given;
     let count = given.count;
     let written = io::write_all(STDOUT_FILENO, &buf[0..count]);
@@ -101,10 +92,6 @@ fn call(line: Line, books: Books, frame: &mut [u8; 256], last: &mut [u8; 217], b
     Done { heard, written }
 }
 
-fn stands(line: Line, books: Books, written: bool) -> Stand {
-    Stand {
-        line,
-        books,
-        written,
-    }
+fn stands(device: Device, written: bool) -> Stand {
+    Stand { device, written }
 }

@@ -11,7 +11,8 @@ use borrow.Author.Tests.{ltb-true, ltb-false, leb-true, leb-false, le-ltb}
 use Rattle.wire.specs.Frame.{Message}
 use Rattle.reader.specs.Reading.{Place, Event, nothing, brokenFrame, heard}
 use Rattle.books.specs.Sound.{sound}
-use Rattle.books.specs.declared.Books.{Books}
+use Rattle.store.specs.Store.{Store}
+use Rattle.device.specs.Device.{Lent, enough}
 use Rattle.kinds.specs.declared.Command.{Command}
 use Rattle.kinds.specs.declared.Parsed.{Parsed}
 use Rattle.kinds.specs.declared.Parsed.the-variants.{Read, Syntax, Unknown}
@@ -20,7 +21,7 @@ use Rattle.deeds.specs.Deeds.{refusedWith, kept, deedOf}
 use Rattle.deeds.specs.Holds.{holds}
 use Rattle.deeds.specs.declared.Deed.{Deed}
 use Rattle.line.specs.Turns as line
-use Rattle.device.specs.Carrying.{deedFor, carry}
+use Rattle.carrying.specs.Carrying.{deedFor, carry}
 use Rattle.till.specs.Turns as till
 use Rattle.till.specs.declared.Word.the-variants.{TooShort}
 use Rattle.till.proofs.Seeing.{failsBy}
@@ -41,41 +42,41 @@ abbrev Says : Bench → Comes → Outcome → Type 0
 Says s c r = ByTheTable s c r ⊎ Beyond s c r
 
 -- books that are not sound
-module _ (s : Bench) (bad : sound (s .device .books) ≡ false) (buffer : List ℕ) (byte : ℕ) where
+module _ (s : Bench) (bad : sound (s .device .store .books) ≡ false) (lent : Lent) (byte : ℕ) where
   abbrev next : Place
   next = reads (s .device) byte .place
 
-  by-kind : (m : Message) → NewFrame (s .device) buffer byte m → (p : Parsed) → parsedOf (m .code) (m .content) ≡ p
-      → Says s (atDevice buffer byte) (fromDevice (ofDevice buffer (order (s .device) next m (deedFor (s .device .books) p))))
+  by-kind : (m : Message) → NewFrame (s .device) lent byte m → (p : Parsed) → parsedOf (m .code) (m .content) ≡ p
+      → Says s (atDevice lent byte) (fromDevice (ofDevice lent (order (s .device) next m (deedFor (s .device .store .books) p))))
   by-kind m n Syntax e = inl (at-device (row-1 m n e))
   by-kind m n Unknown e = inl (at-device (row-2 m n e))
   by-kind m n (Read c) e =
-      subst (λ (d : Deed). Says s (atDevice buffer byte) (fromDevice (ofDevice buffer (order (s .device) next m d))))
-      (sym (ap (λ z. cond z (kept (s .device .books) (deedOf (s .device .books) c)) (refusedWith 1 (s .device .books))) (read-holds (subst Right e (parsed-right (m .code) (m .content))))
-      ∙ ap (λ z. cond z (deedOf (s .device .books) c) (refusedWith 4 (s .device .books))) bad))
+      subst (λ (d : Deed). Says s (atDevice lent byte) (fromDevice (ofDevice lent (order (s .device) next m d))))
+      (sym (ap (λ z. cond z (kept (s .device .store .books) (deedOf (s .device .store .books) c)) (refusedWith 1 (s .device .store .books))) (read-holds (subst Right e (parsed-right (m .code) (m .content))))
+      ∙ ap (λ z. cond z (deedOf (s .device .store .books) c) (refusedWith 4 (s .device .store .books))) bad))
       (inr (unsound-books m c (record { frame = n; kind = e }) bad))
 
-  by-event : 217 ≤ length buffer → (e : Event) → reads (s .device) byte .event ≡ e
-      → Says s (atDevice buffer byte) (fromDevice (ofDevice buffer (line.onEvent carry (s .device) next e)))
+  by-event : enough lent ≡ true → (e : Event) → reads (s .device) byte .event ≡ e
+      → Says s (atDevice lent byte) (fromDevice (ofDevice lent (line.onEvent carry (s .device) next e)))
   by-event room nothing e = inl (at-device (row-0-taken room e))
   by-event room brokenFrame e = inl (at-device (row-5 room e))
   by-event room (heard m) e = go (line.repeats (s .device .before) m) refl
     where
       go : (repeat : Bool) → line.repeats (s .device .before) m ≡ repeat
-          → Says s (atDevice buffer byte) (fromDevice (ofDevice buffer (cond repeat (again (s .device) next) (ordered (s .device) next m (carry (s .device .books) m)))))
+          → Says s (atDevice lent byte) (fromDevice (ofDevice lent (cond repeat (again (s .device) next) (ordered (s .device) next m (carry (s .device .store) m)))))
       go true f = inl (at-device (row-6 m room e f))
       go false f = by-kind m (record { room = room; whole = e; new = f }) (parsedOf (m .code) (m .content)) refl
 
-  unsound : Says s (atDevice buffer byte) (outcomeOf s (atDevice buffer byte))
-  unsound = go (ltb (length buffer) 217) refl
+  unsound : Says s (atDevice lent byte) (outcomeOf s (atDevice lent byte))
+  unsound = go (enough lent) refl
     where
-      go : (short : Bool) → ltb (length buffer) 217 ≡ short
-          → Says s (atDevice buffer byte) (fromDevice (ofDevice buffer (cond short (short7 (s .device)) (line.turn carry (s .device) byte))))
-      go true e = inl (at-device (row-7 (ltb-true (length buffer) 217 e)))
-      go false e = by-event (ltb-false (length buffer) 217 e) (reads (s .device) byte .event) refl
+      go : (long : Bool) → enough lent ≡ long
+          → Says s (atDevice lent byte) (fromDevice (ofDevice lent (cond long (line.turn carry (s .device) byte) (short7 (s .device)))))
+      go true e = by-event e (reads (s .device) byte .event) refl
+      go false e = inl (at-device (row-7 e))
 
 -- more than five tries
-module _ (d : line.State Books) (buffer : List ℕ) (room : 210 ≤ length buffer) where
+module _ (d : line.State Store) (buffer : List ℕ) (room : 210 ≤ length buffer) where
   abbrev bench : ℕ → till.Pending → Bench
   bench next p = record { device = d; till = record { next = next; pending = p } }
 
@@ -111,11 +112,11 @@ module _ (d : line.State Books) (buffer : List ℕ) (room : 210 ≤ length buffe
 
 -- the theorem
 pub in-any-state : (s : Bench) (c : Comes) → ByTheTable s c (outcomeOf s c) ⊎ Beyond s c (outcomeOf s c)
-in-any-state s (atDevice buffer byte) = go (sound (s .device .books)) refl
+in-any-state s (atDevice lent byte) = go (sound (s .device .store .books)) refl
   where
-    go : (fit : Bool) → sound (s .device .books) ≡ fit → Says s (atDevice buffer byte) (outcomeOf s (atDevice buffer byte))
-    go true e = inl (by-the-device s e buffer byte)
-    go false e = unsound s e buffer byte
+    go : (fit : Bool) → sound (s .device .store .books) ≡ fit → Says s (atDevice lent byte) (outcomeOf s (atDevice lent byte))
+    go true e = inl (by-the-device s e lent byte)
+    go false e = unsound s e lent byte
 in-any-state s (atTill buffer h) = go (ltb (length buffer) 210) refl
   where
     go : (short : Bool) → ltb (length buffer) 210 ≡ short → Says s (atTill buffer h) (fromTill (ofTill buffer (cond short (till.stays TooShort (s .till)) (till.takes (s .till) h))))

@@ -12,24 +12,24 @@ use Rattle.promises.proofs.CodedTill.{TillOk, follows, till-result, til
 
 -- any calls
 record Ok (f : Machines) : Type 0 where
-  device : DeviceOk (f .line) (f .books) (f .frame) (f .last)
+  device : DeviceOk (f .device)
   till : TillOk (f .till) (f .sent) (f .answer)
 
 all-calls : (f : Machines) → Ok f → (calls : List CodeCall) → CodeByTheTable (benchOf f) f calls
 all-calls f ok [] = no-call
-all-calls f ok (hear buffer bytes ∷ calls) =
-    let p = device-called (benchOf f .till) (f .line) (f .books) (f .frame) (f .last) (ok .device) buffer bytes in
+all-calls f ok (hear lent bytes ∷ calls) =
+    let p = device-called (benchOf f .till) (f .device) (ok .device) lent bytes in
     device-call (p .reply) (p .by) (p .result)
-    (subst (λ s. CodeByTheTable (record { device = s; till = benchOf f .till }) (handedOn f (hear buffer bytes)) calls) (p .result .state)
-    (all-calls (handedOn f (hear buffer bytes)) (record { device = p .ok; till = ok .till }) calls))
+    (subst (λ s. CodeByTheTable (record { device = s; till = benchOf f .till }) (handedOn f (hear lent bytes)) calls) (p .result .state)
+    (all-calls (handedOn f (hear lent bytes)) (record { device = p .ok; till = ok .till }) calls))
 all-calls f ok (happens buffer h ∷ calls) =
     till-call (ofTill buffer (turnAfter f buffer h)) (by-the-till-end (benchOf f) (ok .till .tries) buffer h) (till-result f (ok .till) buffer h)
     (subst (λ s. CodeByTheTable (record { device = benchOf f .device; till = s }) (handedOn f (happens buffer h)) calls) (follows f (ok .till) buffer h)
     (all-calls (handedOn f (happens buffer h)) (record { device = ok .device; till = till-after f (ok .till) buffer h }) calls))
 
-pub fresh-device : (f : Machines) → Fresh f → DeviceOk (f .line) (f .books) (f .frame) (f .last)
+pub fresh-device : (f : Machines) → Fresh f → DeviceOk (f .device)
 fresh-device f fresh =
-    record { frames = fresh .frame; lasts = fresh .last; short = rw (fresh .line) tt; reached = rw (fresh .books) fresh-reached }
+    record { frames = fresh .frame; lasts = fresh .last; short = rw (fresh .device) tt; reached = rw (fresh .device) fresh-reached }
 
 -- the theorem
 pub the-code-replies-by-the-table : (f : Machines) → Fresh f → (calls : List CodeCall) → CodeByTheTable freshBench f calls
@@ -37,7 +37,7 @@ the-code-replies-by-the-table f fresh calls =
     subst (λ s. CodeByTheTable s f calls) says-fresh (all-calls f fresh-ok calls)
   where
     says-fresh : benchOf f ≡ freshBench
-    says-fresh = rw (fresh .line, fresh .books, fresh .till)
+    says-fresh = rw (fresh .device, fresh .till)
 
     fresh-ok : Ok f
     fresh-ok =

@@ -18,8 +18,9 @@ use Rattle.command.specs.Commands.{parsedOf}
 use Rattle.history.specs.Reached.{Reached}
 use Rattle.history.proofs.Reaching.{fresh-reached, reached-stays}
 use Rattle.line.specs.Turns as line
-use Rattle.device.specs.Carrying.{deedFor, carry}
-use Rattle.device.specs.Device.{lentTurn}
+use Rattle.carrying.specs.Carrying.{deedFor, carry}
+use Rattle.store.specs.Store.{Store}
+use Rattle.device.specs.Device.{Lent, enough, lentTurn}
 use Rattle.till.specs.Turns as till
 use Rattle.till.specs.declared.Word.the-variants.{Unfinished, TooShort, NotSent}
 use Rattle.till.proofs.Seeing.{failsBy}
@@ -32,11 +33,11 @@ use Rattle.promises.proofs.TillRows as till-rows
 
 -- uniqueness, from any state: the rows as a function
 abbrev tableReply : Bench → Comes → Outcome
-tableReply s (atDevice buffer byte) = fromDevice (ofDevice buffer (device-rows.tableTurn (s .device) (length buffer) byte))
+tableReply s (atDevice lent byte) = fromDevice (ofDevice lent (device-rows.tableTurn (s .device) lent byte))
 tableReply s (atTill buffer h) = fromTill (ofTill buffer (till.hears (length buffer) (s .till) h))
 
 only-this : (s : Bench) (c : Comes) (r : Outcome) → ByTheTable s c r → r ≡ tableReply s c
-only-this s c r (at-device {buffer = buffer} {byte = byte} {r = x} b) = ap fromDevice (device-rows.only-row (s .device) buffer byte x b)
+only-this s c r (at-device {lent = lent} {byte = byte} {r = x} b) = ap fromDevice (device-rows.only-row (s .device) lent byte x b)
 only-this s c r (at-till {buffer = buffer} {h = h} {r = x} b) = ap fromTill (till-rows.only-row (s .till) buffer h x b)
 
 pub the-reply-is-the-only-one : (s : Bench) (c : Comes) (r other : Outcome) → ByTheTable s c r → ByTheTable s c other → r ≡ other
@@ -57,11 +58,10 @@ pub the-replies-are-the-only-ones : (s : Bench) (cs : List Comes) (rs others : L
 the-replies-are-the-only-ones s cs rs others a b = only-these s cs rs a ∙ sym (only-these s cs others b)
 
 -- existence: at the device where its books are sound, at the till end where at most five tries were made
-pub by-the-device : (s : Bench) → sound (s .device .books) ≡ true → (buffer : List ℕ) (byte : ℕ) → ByTheTable s (atDevice buffer byte) (outcomeOf s (atDevice buffer byte))
-by-the-device s e buffer byte =
+pub by-the-device : (s : Bench) → sound (s .device .store .books) ≡ true → (lent : Lent) (byte : ℕ) → ByTheTable s (atDevice lent byte) (outcomeOf s (atDevice lent byte))
+by-the-device s e lent byte =
     at-device
-    (subst (λ t. ByDevice (s .device) buffer byte (ofDevice buffer t)) (sym (device-rows.as-the-table (s .device) e (length buffer) byte))
-    (device-rows.has-its-row (s .device) buffer byte))
+    (subst (λ t. ByDevice (s .device) lent byte (ofDevice lent t)) (sym (device-rows.as-the-table (s .device) e lent byte)) (device-rows.has-its-row (s .device) lent byte))
 
 pub by-the-till-end : (s : Bench) → till-rows.triesOf (s .till .pending) ≤ 5 → (buffer : List ℕ) (h : till.Happening)
     → ByTheTable s (atTill buffer h) (outcomeOf s (atTill buffer h))
@@ -73,22 +73,21 @@ deed-stays b (Read c) r = reached-stays b c r
 deed-stays b Syntax r = r
 deed-stays b Unknown r = r
 
-pub event-stays : (s : line.State Books) (next : Place) (e : Event) → Reached (s .books) → Reached (line.onEvent carry s next e .state .books)
+pub event-stays : (s : line.State Store) (next : Place) (e : Event) → Reached (s .store .books) → Reached (line.onEvent carry s next e .state .store .books)
 event-stays s next nothing r = r
 event-stays s next brokenFrame r = r
 event-stays s next (heard m) r = go (line.repeats (s .before) m)
   where
-    go : (repeat : Bool)
-        → Reached (cond repeat (device-rows.again s next) (device-rows.ordered s next m (carry (s .books) m)) .state .books)
+    go : (repeat : Bool) → Reached (cond repeat (device-rows.again s next) (device-rows.ordered s next m (carry (s .store) m)) .state .store .books)
     go true = r
-    go false = deed-stays (s .books) (parsedOf (m .code) (m .content)) r
+    go false = deed-stays (s .store .books) (parsedOf (m .code) (m .content)) r
 
-pub turn-stays : (room : ℕ) (s : line.State Books) (byte : ℕ) → Reached (s .books) → Reached (lentTurn room s byte .state .books)
-turn-stays room s byte r = go (ltb room 217)
+pub turn-stays : (lent : Lent) (s : line.State Store) (byte : ℕ) → Reached (s .store .books) → Reached (lentTurn lent s byte .state .store .books)
+turn-stays lent s byte r = go (enough lent)
   where
-    go : (short : Bool) → Reached (cond short (device-rows.short7 s) (line.turn carry s byte) .state .books)
-    go true = r
-    go false = event-stays s (read Command (s .place) byte .place) (read Command (s .place) byte .event) r
+    go : (long : Bool) → Reached (cond long (line.turn carry s byte) (device-rows.short7 s) .state .store .books)
+    go true = event-stays s (read Command (s .place) byte .place) (read Command (s .place) byte .event) r
+    go false = r
 
 -- and the tries stay at five at most
 abbrev Few : till.Turn → Type 0
@@ -127,18 +126,18 @@ tries-stay lent s h few = go (ltb lent 210)
 
 -- both, at a moment of a history of fresh ends
 pub record Proper (s : Bench) : Type 0 where
-  pub books : Reached (s .device .books)
+  pub books : Reached (s .device .store .books)
   pub tries : till-rows.triesOf (s .till .pending) ≤ 5
 
 pub fresh-proper : Proper freshBench
 fresh-proper = record { books = fresh-reached; tries = omega arith }
 
 pub proper-stays : (s : Bench) → Proper s → (c : Comes) → Proper (benchAfter s (outcomeOf s c))
-proper-stays s p (atDevice buffer byte) = record { books = turn-stays (length buffer) (s .device) byte (p .books); tries = p .tries }
+proper-stays s p (atDevice lent byte) = record { books = turn-stays lent (s .device) byte (p .books); tries = p .tries }
 proper-stays s p (atTill buffer h) = record { books = p .books; tries = tries-stay (length buffer) (s .till) h (p .tries) }
 
 by-both : (s : Bench) → Proper s → (c : Comes) → ByTheTable s c (outcomeOf s c)
-by-both s p (atDevice buffer byte) = by-the-device s (p .books .fits) buffer byte
+by-both s p (atDevice lent byte) = by-the-device s (p .books .fits) lent byte
 by-both s p (atTill buffer h) = by-the-till-end s (p .tries) buffer h
 
 from-proper : (s : Bench) → Proper s → (cs : List Comes) → AllByTheTable s cs (outcomesOf s cs)

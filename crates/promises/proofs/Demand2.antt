@@ -17,7 +17,7 @@ use Rattle.kinds.specs.declared.Parsed.{Parsed}
 use Rattle.kinds.specs.declared.Parsed.the-variants.{Read, Syntax, Unknown}
 use Rattle.kinds.specs.declared.Service.{Service}
 use Rattle.command.specs.Commands.{parsedOf}
-use Rattle.books.specs.declared.Books.{Books}
+use Rattle.store.specs.Store.{Store}
 use Rattle.answers.proofs.Shown.{shown-sendable}
 use Rattle.history.specs.Agrees.{Agrees, toldBooks}
 use Rattle.history.specs.Digits.{InDigits, leftOf}
@@ -25,8 +25,8 @@ use Rattle.history.specs.History.{receiptTotal, paidSum, putIn, takenOut}
 use Rattle.history.proofs.Digits.{digits-fit, rest-and-change-fit}
 use Rattle.history.proofs.Histories.{never-overpaid, agreed-is-told}
 use Rattle.line.specs.Turns.{State, Session}
-use Rattle.device.specs.Carrying.{deedFor, answerTo, carry}
-use Rattle.device.specs.Recording.{recording}
+use Rattle.carrying.specs.Carrying.{deedFor, answerTo, carry}
+use Rattle.recorder.specs.Recording.{recording}
 use Rattle.till.specs.Turns as turns
 use Rattle.till.specs.History.{history, heardBytes, words, behind}
 use Rattle.till.specs.History as till
@@ -35,7 +35,8 @@ use Rattle.till.proofs.Frames.{answer-heard}
 use Rattle.promises.specs.Coded.{Machines, Fresh, HeardThrough}
 use Rattle.promises.specs.Demand2.{LentByte, alwaysLent, turnBy, turnsOf, deviceAfter, allGiven, allCarried, dataIn, freshDevice, entriesOf, booksAfter, cashIn}
 use Rattle.promises.proofs.Through.{the-calls-are-the-recording}
-use Rattle.promises.proofs.Joining.{deed-reached, any-history-reached, any-history-agrees, device-after-one, session-turns, cash-in-answer}
+use Rattle.promises.proofs.Demand1.{deed-stays}
+use Rattle.promises.proofs.Joining.{any-history-reached, any-history-agrees, device-after-one, session-turns, cash-in-answer}
 use Rattle.promises.proofs.Verdicts.{Right, syntax, no-kind, is-read, parsed-right, right-priced}
 
 -- "built and read alike": the frame of whatever can be sent, read from any place, is heard as exactly that
@@ -55,7 +56,7 @@ every-answer-can-be-sent arrived m e =
     let b = booksAfter arrived in
     let d = deedFor b (parsedOf (m .code) (m .content)) in
     let before = any-history-reached arrived in
-    let after = deed-reached b (parsedOf (m .code) (m .content)) before in
+    let after = deed-stays b (parsedOf (m .code) (m .content)) before in
     let marks = parts Command m e in
     shown-sendable (m .seq) (m .code) (d .number) (d .shown) (b .day) (d .books) (marks .seq) (marks .code) (before .eight-sums) (after .eight-sums) (after .receipt .eight-groups)
 
@@ -63,7 +64,7 @@ every-answer-can-be-sent arrived m e =
 pub both-ends-speak-alike : (arrived : List LentByte) (m : Message) → sendable Command m ≡ true
     → (s : turns.State) (sent : List ℕ) (tries : ℕ) (place : Place) → s .pending ≡ turns.waits (m .seq) (m .code) sent tries place
     → let a = answerTo (booksAfter arrived) (m .seq) (m .code) (deedFor (booksAfter arrived) (parsedOf (m .code) (m .content))) in
-    let heard-bytes = heardBytes (carry (booksAfter arrived) m .answer) in
+    let heard-bytes = heardBytes (carry (record { books = booksAfter arrived }) m .answer) in
     (words (history s heard-bytes) ≡ replicate (length (frame Answer a) - 1) (Waiting 0) ++ Answered (length (a .content ++ a .status)) ∷ [])
     × ((till.putsOf (history s heard-bytes) ≡ replicate (length (frame Answer a) - 1) [] ++ (a .content ++ a .status) ∷ [])
     × (behind s heard-bytes ≡ record { next = s .next; pending = turns.idle }))
@@ -87,7 +88,7 @@ pub cash-is-seen : (arrived : List LentByte) (a : LentByte) → let t = turnBy (
     → cashIn (dataIn (t .gives)) ≡ putIn (entriesOf (arrived ++ a ∷ [])) - takenOut (entriesOf (arrived ++ a ∷ []))
 cash-is-seen arrived a m s one is70 zero =
     cash-in-answer (deviceAfter freshDevice arrived) (any-history-reached arrived) m s is70 a one zero
-    ∙ ap (λ (z : State Books). z .books .drawer .cash) (sym (device-after-one freshDevice arrived a))
+    ∙ ap (λ (z : State Store). z .store .books .drawer .cash) (sym (device-after-one freshDevice arrived a))
     ∙ any-history-agrees (arrived ++ a ∷ []) .cash
 
 -- and every other figure (PROTOCOL 8.3): the open receipt, its lines, whether a 53 was done and whether it is paid in full, day sums, registers, service sums,
@@ -103,12 +104,12 @@ no-more-paid-than-due arrived = never-overpaid (entriesOf arrived) (booksAfter a
 pub the-entries-tell-the-books : (arrived : List LentByte) → booksAfter arrived ≡ toldBooks (entriesOf arrived)
 the-entries-tell-the-books arrived = agreed-is-told (entriesOf arrived) (booksAfter arrived) (any-history-reached arrived) (any-history-agrees arrived)
 
-pub and-those-of-a-recording : (bytes : List ℕ) → recording bytes .state .books ≡ toldBooks (entriesOf (alwaysLent bytes))
-and-those-of-a-recording bytes = ap (λ (z : Session Books). z .state .books) (a-recording-is-its-turns bytes) ∙ the-entries-tell-the-books (alwaysLent bytes)
+pub and-those-of-a-recording : (bytes : List ℕ) → recording bytes .state .store .books ≡ toldBooks (entriesOf (alwaysLent bytes))
+and-those-of-a-recording bytes = ap (λ (z : Session Store). z .state .store .books) (a-recording-is-its-turns bytes) ∙ the-entries-tell-the-books (alwaysLent bytes)
 
 -- and those behind all calls of the running code, in whatever parts and with whatever buffers it hears the bytes
-pub and-those-of-the-calls : (f g : Machines) → Fresh f → (bytes gives : List ℕ) → HeardThrough f bytes gives g → g .books ≡ toldBooks (entriesOf (alwaysLent bytes))
-and-those-of-the-calls f g fresh bytes gives h = the-calls-are-the-recording f g fresh bytes gives h .1 ∙ and-those-of-a-recording bytes
+pub and-those-of-the-calls : (f g : Machines) → Fresh f → (bytes gives : List ℕ) → HeardThrough f bytes gives g → g .device .device .books ≡ toldBooks (entriesOf (alwaysLent bytes))
+and-those-of-the-calls f g fresh bytes gives h = ap (λ (z : Store). z .books) (the-calls-are-the-recording f g fresh bytes gives h .1) ∙ and-those-of-a-recording bytes
 
 -- "No field shown ever passes its digits."
 pub every-field-fits : (arrived : List LentByte) → InDigits (booksAfter arrived)

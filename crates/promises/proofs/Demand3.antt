@@ -16,9 +16,8 @@ use Rattle.wire.specs.Frame.{Message, frame, sendable}
 use Rattle.wire.specs.declared.Kind.the-variants.{Command}
 use Rattle.wire.proofs.Suits.{both}
 use Rattle.reader.specs.Reading.{outside, brokenFrame}
-use Rattle.books.specs.Books.{freshBooks}
-use Rattle.books.specs.declared.Books.{Books}
-use Rattle.line.specs.Turns.{Before, switchedOn, session}
+use Rattle.store.specs.Store.{Store, freshStore}
+use Rattle.line.specs.Turns.{Carried, Before, switchedOn, session}
 use Rattle.tries.specs.Tries.{Arrival, cut, mayArrive, arriving, Begun, clear, begun, brings}
 use Rattle.delivery.specs.Delivery.{isWhole, Sent, all, any, tried, differsFrom, delivery, commands, triesArriving, allArriving, givenBack, carryAll, AllBring, EndedByTheNext}
 use Rattle.delivery.specs.AtMostOnce.{allMayCome, allHeard, withoutRepeats, noneLacksLast, arrivedWhole, neighboursDiffer}
@@ -29,8 +28,9 @@ use Rattle.delivery.proofs.Ended.{ended-by-the-next}
 use Rattle.till.specs.History.{Lent, seqOf}
 use Rattle.till.specs.Handed.{Handed, handedIn, AllInPlace}
 use Rattle.till.proofs.Handing.{seqs-differ, frames-are-tries}
-use Rattle.device.specs.Carrying.{carry}
-use Rattle.device.specs.Recording.{recording, listing, toldIn}
+use Rattle.carrying.specs.Carrying.{carry}
+use Rattle.device.specs.Device.{storeOf}
+use Rattle.recorder.specs.Recording.{recording, listing, toldIn}
 use Rattle.promises.specs.Coded.{Machines, Fresh, HeardThrough}
 use Rattle.promises.specs.Demand3.{eachArrives, allArrive, eachOneWhole, framesArriving, bytesArriving, takenCommands, overTheLine}
 use Rattle.promises.proofs.Through.{the-calls-are-the-recording}
@@ -38,34 +38,34 @@ use Rattle.promises.proofs.Through.{the-calls-are-the-recording}
 -- the list is carried out, each command once and in order, and the books are those of carrying it out by demand 2's rules (`carry`)
 pub carries-out-the-list : (cs : List Sent) → delivery cs ≡ true
     → (recording (allArriving cs) .carried ≡ commands cs)
-    × (recording (allArriving cs) .state .books ≡ carryAll carry freshBooks (commands cs))
-carries-out-the-list cs e = carries-out-that-very-list carry cs e freshBooks
+    × (recording (allArriving cs) .state .store ≡ carryAll carry freshStore (commands cs))
+carries-out-the-list cs e = carries-out-that-very-list carry cs e freshStore
 
--- the same of a device with any books and no frame before
-pub carries-out-the-list-from : (books : Books) (cs : List Sent) → delivery cs ≡ true
-    → (session carry (switchedOn books) (allArriving cs) .carried ≡ commands cs)
-    × (session carry (switchedOn books) (allArriving cs) .state .books ≡ carryAll carry books (commands cs))
-carries-out-the-list-from books cs e = carries-out-that-very-list carry cs e books
+-- the same of a device that remembers anything and has no frame before
+pub carries-out-the-list-from : (store : Store) (cs : List Sent) → delivery cs ≡ true
+    → (session carry (switchedOn store) (allArriving cs) .carried ≡ commands cs)
+    × (session carry (switchedOn store) (allArriving cs) .state .store ≡ carryAll carry store (commands cs))
+carries-out-the-list-from store cs e = carries-out-that-very-list carry cs e store
 
 -- try by try, to the byte: what is given back during it, and with which try a command is carried out
-pub each-try-brings : (books : Books) (cs : List Sent) → delivery cs ≡ true → AllBring carry (switchedOn books) clear books [] cs
-each-try-brings books cs e = brings-for-each-try carry cs e books
+pub each-try-brings : (store : Store) (cs : List Sent) → delivery cs ≡ true → AllBring carry (switchedOn store) clear store [] cs
+each-try-brings store cs e = brings-for-each-try carry cs e store
 
 -- so a cut try is answered with nothing or with one NAK
-pub a-cut-try-is-answered : (m : Message) (b : Begun) (last answer : List ℕ) (count : ℕ)
-    → (givenBack m last answer (brings Command b m (cut count)) ≡ []) ⊎ (givenBack m last answer (brings Command b m (cut count)) ≡ 0x15 ∷ [])
-a-cut-try-is-answered m b last answer zero = inl refl
-a-cut-try-is-answered m clear last answer (suc count) = inl refl
-a-cut-try-is-answered m (begun n came) last answer (suc count) = go (ltb 1 came)
+pub a-cut-try-is-answered : (m : Message) (b : Begun) (last : List ℕ) (k : Carried Store) (done : Bool) (count : ℕ)
+    → (givenBack m last k done (brings Command b m (cut count)) ≡ []) ⊎ (givenBack m last k done (brings Command b m (cut count)) ≡ 0x15 ∷ [])
+a-cut-try-is-answered m b last k done zero = inl refl
+a-cut-try-is-answered m clear last k done (suc count) = inl refl
+a-cut-try-is-answered m (begun n came) last k done (suc count) = go (ltb 1 came)
   where
-    go : (t : Bool) → (givenBack m last answer (cond t (brokenFrame ∷ []) []) ≡ []) ⊎ (givenBack m last answer (cond t (brokenFrame ∷ []) []) ≡ 0x15 ∷ [])
+    go : (t : Bool) → (givenBack m last k done (cond t (brokenFrame ∷ []) []) ≡ []) ⊎ (givenBack m last k done (cond t (brokenFrame ∷ []) []) ≡ 0x15 ∷ [])
     go true = inr refl
     go false = inl refl
 
 -- "the try that lacks only its last byte when the next one's first byte has become 03h": with that byte the command whose frame lacked it is
 -- carried out, or answered again if it is a repeat; of the next try nothing is
-pub ended-by-the-next-try : (m n : Message) → sendable Command m ≡ true → sendable Command n ≡ true → (before : Before) (books : Books)
-    → (count : ℕ) → count + 1 ≡ length (frame Command m) → EndedByTheNext carry (record { place = outside; before = before; books = books }) m n count
+pub ended-by-the-next-try : (m n : Message) → sendable Command m ≡ true → sendable Command n ≡ true → (before : Before) (store : Store)
+    → (count : ℕ) → count + 1 ≡ length (frame Command m) → EndedByTheNext carry (record { place = outside; before = before; store = store }) m n count
 ended-by-the-next-try = ended-by-the-next carry
 
 -- "So two different lists never arrive as the same bytes."
@@ -75,34 +75,34 @@ different-lists-differ = same-bytes-same-list
 -- the running code: whatever buffers are lent to `device::hear`, and in whatever parts the bytes are heard, as `printer` hears them: the books behind the
 -- calls are those of the list, and all that was given back is what these theorems speak of
 pub the-calls-carry-out-the-list : (f g : Machines) → Fresh f → (cs : List Sent) → delivery cs ≡ true → (gives : List ℕ) → HeardThrough f (allArriving cs) gives g
-    → (g .books ≡ carryAll carry freshBooks (commands cs)) × (gives ≡ recording (allArriving cs) .gives)
+    → (storeOf (g .device) ≡ carryAll carry freshStore (commands cs)) × (gives ≡ recording (allArriving cs) .gives)
 the-calls-carry-out-the-list f g fresh cs e gives h =
     let same = the-calls-are-the-recording f g fresh (allArriving cs) gives h in
     (same .1 ∙ carries-out-the-list cs e .1, same .0)
 
--- and `device::hear_all` promises `toldIn` of the recording, so that the list it lists and the books it hands back are these
+-- and `recorder::hear_all` promises `toldIn` of the recording, so that the list it lists and the books it hands back are these
 pub the-code-tells-the-list : (cs : List Sent) → delivery cs ≡ true → (out orders : List ℕ)
-    → (toldIn out orders (recording (allArriving cs)) .recorded .books ≡ carryAll carry freshBooks (commands cs))
+    → (toldIn out orders (recording (allArriving cs)) .recorded .books ≡ carryAll carry freshStore (commands cs) .books)
     × (toldIn out orders (recording (allArriving cs)) .orders ≡ sets orders 0 (listing (commands cs)))
 the-code-tells-the-list cs e out orders =
     let both = carries-out-the-list cs e in
-    (both .1, ap (λ z. sets orders 0 (listing z)) (both .0))
+    (ap (λ (z : Store). z .books) (both .1), ap (λ z. sets orders 0 (listing z)) (both .0))
 
 -- at most once, without "at least one whole": whatever tries arrive, and in whatever of the ways, what is carried out is what is heard, told from the tries
 -- alone, repeats left out
-pub carries-out-what-was-heard : (cs : List Sent) → allMayCome cs ≡ true → (books : Books)
-    → (session carry (switchedOn books) (allArriving cs) .carried ≡ withoutRepeats (allHeard clear cs))
-    × (session carry (switchedOn books) (allArriving cs) .state .books ≡ carryAll carry books (withoutRepeats (allHeard clear cs)))
+pub carries-out-what-was-heard : (cs : List Sent) → allMayCome cs ≡ true → (store : Store)
+    → (session carry (switchedOn store) (allArriving cs) .carried ≡ withoutRepeats (allHeard clear cs))
+    × (session carry (switchedOn store) (allArriving cs) .state .store ≡ carryAll carry store (withoutRepeats (allHeard clear cs)))
 carries-out-what-was-heard = carries-out-what-is-heard carry
 
 -- and it is the list with some left out: each command at most once, and in order
-pub carries-out-at-most-once : (cs : List Sent) → allMayCome cs ≡ true → (books : Books) → Sublist (session carry (switchedOn books) (allArriving cs) .carried) (commands cs)
+pub carries-out-at-most-once : (cs : List Sent) → allMayCome cs ≡ true → (store : Store) → Sublist (session carry (switchedOn store) (allArriving cs) .carried) (commands cs)
 carries-out-at-most-once = carries-out-a-part carry
 
 -- as long as no cut try lacks only its last byte (PROTOCOL 9.5), exactly those commands of which a try arrived whole, where these neighbours differ
-pub carries-out-those-that-arrived : (cs : List Sent) → allMayCome cs ≡ true → noneLacksLast cs ≡ true → neighboursDiffer (arrivedWhole cs) ≡ true → (books : Books)
-    → (session carry (switchedOn books) (allArriving cs) .carried ≡ commands (arrivedWhole cs))
-    × (session carry (switchedOn books) (allArriving cs) .state .books ≡ carryAll carry books (commands (arrivedWhole cs)))
+pub carries-out-those-that-arrived : (cs : List Sent) → allMayCome cs ≡ true → noneLacksLast cs ≡ true → neighboursDiffer (arrivedWhole cs) ≡ true → (store : Store)
+    → (session carry (switchedOn store) (allArriving cs) .carried ≡ commands (arrivedWhole cs))
+    × (session carry (switchedOn store) (allArriving cs) .state .store ≡ carryAll carry store (commands (arrivedWhole cs)))
 carries-out-those-that-arrived = carries-out-those-whole carry
 
 -- from the till end: its frames, whatever the line does to each, are such a list
@@ -168,30 +168,30 @@ crosses (h ∷ hs) place p (ways ∷ rest) e =
 pub the-till-s-commands-are-carried-out : (ls : List Lent) (ways : List (List Arrival)) → allArrive (handedIn ls) ways ≡ true → eachOneWhole ways ≡ true
     → (delivery (overTheLine (handedIn ls) ways) ≡ true)
     × (recording (bytesArriving (handedIn ls) ways) .carried ≡ takenCommands (handedIn ls))
-    × (recording (bytesArriving (handedIn ls) ways) .state .books ≡ carryAll carry freshBooks (takenCommands (handedIn ls)))
+    × (recording (bytesArriving (handedIn ls) ways) .state .store ≡ carryAll carry freshStore (takenCommands (handedIn ls)))
 the-till-s-commands-are-carried-out ls ways e w =
     let x = crosses (handedIn ls) 0 (frames-are-tries ls) ways e in
     let d = x .is-delivery w in
     let all-done = carries-out-the-list (overTheLine (handedIn ls) ways) d in (
       d,
       ap (λ bytes. recording bytes .carried) (x .same-bytes) ∙ all-done .0 ∙ x .same-commands,
-      ap (λ bytes. recording bytes .state .books) (x .same-bytes) ∙ all-done .1 ∙ ap (carryAll carry freshBooks) (x .same-commands),
+      ap (λ bytes. recording bytes .state .store) (x .same-bytes) ∙ all-done .1 ∙ ap (carryAll carry freshStore) (x .same-commands),
     )
 
 -- and each at most once and in order, if whole ones are missing
 pub the-till-s-commands-at-most-once : (ls : List Lent) (ways : List (List Arrival)) → allArrive (handedIn ls) ways ≡ true
     → let heard-of = withoutRepeats (allHeard clear (overTheLine (handedIn ls) ways)) in
     (recording (bytesArriving (handedIn ls) ways) .carried ≡ heard-of)
-    × (recording (bytesArriving (handedIn ls) ways) .state .books ≡ carryAll carry freshBooks heard-of)
+    × (recording (bytesArriving (handedIn ls) ways) .state .store ≡ carryAll carry freshStore heard-of)
     × Sublist (recording (bytesArriving (handedIn ls) ways) .carried) (takenCommands (handedIn ls))
 the-till-s-commands-at-most-once ls ways e =
     let x = crosses (handedIn ls) 0 (frames-are-tries ls) ways e in
     let cs = overTheLine (handedIn ls) ways in
-    let heard-so = carries-out-what-is-heard carry cs (x .may-come) freshBooks in (
+    let heard-so = carries-out-what-is-heard carry cs (x .may-come) freshStore in (
       ap (λ bytes. recording bytes .carried) (x .same-bytes) ∙ heard-so .0,
-      ap (λ bytes. recording bytes .state .books) (x .same-bytes) ∙ heard-so .1,
+      ap (λ bytes. recording bytes .state .store) (x .same-bytes) ∙ heard-so .1,
       subst (λ ms. Sublist (recording (bytesArriving (handedIn ls) ways) .carried) ms) (x .same-commands)
-          (subst (λ bytes. Sublist (recording bytes .carried) (commands cs)) (sym (x .same-bytes)) (carries-out-a-part carry cs (x .may-come) freshBooks)),
+          (subst (λ bytes. Sublist (recording bytes .carried) (commands cs)) (sym (x .same-bytes)) (carries-out-a-part carry cs (x .may-come) freshStore)),
     )
 
 -- exactly those of which a frame arrived whole, where no cut one lacks only its last byte and these neighbours differ: the till end's SEQ comes again
@@ -202,4 +202,4 @@ pub the-till-s-commands-that-arrived : (ls : List Lent) (ways : List (List Arriv
 the-till-s-commands-that-arrived ls ways e f d =
     let x = crosses (handedIn ls) 0 (frames-are-tries ls) ways e in
     ap (λ bytes. recording bytes .carried) (x .same-bytes)
-    ∙ carries-out-those-that-arrived (overTheLine (handedIn ls) ways) (x .may-come) f d freshBooks .0
+    ∙ carries-out-those-that-arrived (overTheLine (handedIn ls) ways) (x .may-come) f d freshStore .0

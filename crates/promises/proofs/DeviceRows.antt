@@ -2,11 +2,8 @@
 -- turn is the same where its books are sound.
 use mathlib.Core.Path.{_≡_, refl, sym, ap, _∙_}
 use mathlib.Core.Bool.{Bool, true, false, cond}
-use mathlib.Core.List.{List, [], _∷_}
-use Prim.Native.Nat.{ℕ, _≤_}
-use lib.Dec.{ltb}
-use lib.ListN.{length}
-use borrow.Author.Tests.{ltb-true, ltb-false, lt-ltb, le-ltb}
+use mathlib.Core.List.{[], _∷_, _++_}
+use Prim.Native.Nat.{ℕ}
 use Rattle.wire.specs.Frame.{Message}
 use Rattle.wire.specs.declared.Kind.the-variants.{Command}
 use Rattle.reader.specs.Reading.{Place, Event, nothing, brokenFrame, heard, read}
@@ -22,8 +19,9 @@ use Rattle.deeds.specs.Deeds.{refusedWith, done, judged, kept, byReasons, deedO
 use Rattle.deeds.specs.declared.Deed.{Deed}
 use Rattle.deeds.proofs.Reasons.{judged-by-its-reasons}
 use Rattle.line.specs.Turns.{was, State, Carried, Turn, repeats, lastAnswer, onEvent, turn}
-use Rattle.device.specs.Carrying.{deedFor, carriedAs, carry}
-use Rattle.device.specs.Device.{lentTurn}
+use Rattle.carrying.specs.Carrying.{deedFor, carriedAs, carry}
+use Rattle.store.specs.Store.{Store}
+use Rattle.device.specs.Device.{Lent, enough, lentTurn}
 use Rattle.promises.specs.AtDevice.{FromDevice, reads, NewFrame, NewCommand, ByDevice, row-0-taken, row-0-done, row-1, row-2, row-3, row-4, row-5, row-6, row-7}
 use Rattle.promises.specs.Ends.{ofDevice}
 use Rattle.promises.proofs.Verdicts.{Right, syntax, no-kind, is-read, parsed-right}
@@ -34,99 +32,99 @@ tableDeed b (Read c) = byReasons b c
 tableDeed b Syntax = refusedWith 1 b
 tableDeed b Unknown = refusedWith 2 b
 
-abbrev pub tableCarry : Books → Message → Carried Books
-tableCarry b m = carriedAs b (m .seq) (m .code) (tableDeed b (parsedOf (m .code) (m .content)))
+abbrev pub tableCarry : Store → Message → Carried Store
+tableCarry s m = carriedAs s (m .seq) (m .code) (tableDeed (s .books) (parsedOf (m .code) (m .content)))
 
-module _ (s : State Books) where
+module _ (s : State Store) where
   -- turns, with all that decides them as arguments
-  abbrev pub short7 : Turn Books
+  abbrev pub short7 : Turn Store
   short7 = record { number = 7; gives = []; carried = []; state = s }
 
-  abbrev pub again : Place → Turn Books
-  again next = record { number = 6; gives = lastAnswer (s .before); carried = []; state = record { place = next; before = s .before; books = s .books } }
+  abbrev pub again : Place → Turn Store
+  again next = record { number = 6; gives = lastAnswer (s .before); carried = []; state = record { place = next; before = s .before; store = s .store } }
 
-  abbrev pub ordered : Place → Message → Carried Books → Turn Books
+  abbrev pub ordered : Place → Message → Carried Store → Turn Store
   ordered next m k =
-      record { number = k .number; gives = k .answer; carried = m ∷ []; state = record { place = next; before = was (m .seq) (m .code) (k .answer); books = k .books } }
+      record { number = k .number; gives = k .lead ++ k .answer; carried = m ∷ []; state = record { place = next; before = was (m .seq) (m .code) (k .answer); store = k .store } }
 
-  abbrev pub order : Place → Message → Deed → Turn Books
-  order next m d = ordered next m (carriedAs (s .books) (m .seq) (m .code) d)
+  abbrev pub order : Place → Message → Deed → Turn Store
+  order next m d = ordered next m (carriedAs (s .store) (m .seq) (m .code) d)
 
   abbrev reasoned : kinds.Command → Bool → Bool → Deed
-  reasoned c for3 for4 = judged (s .books) for3 for4 (done (effect (s .books) c) (shows (s .books) c))
+  reasoned c for3 for4 = judged (s .store .books) for3 for4 (done (effect (s .store .books) c) (shows (s .store .books) c))
 
-  abbrev pub tableTurn : ℕ → ℕ → Turn Books
-  tableTurn room byte = cond (ltb room 217) short7 (turn tableCarry s byte)
+  abbrev pub tableTurn : Lent → ℕ → Turn Store
+  tableTurn lent byte = cond (enough lent) (turn tableCarry s byte) short7
 
-  module _ (buffer : List ℕ) (byte : ℕ) where
+  module _ (lent : Lent) (byte : ℕ) where
     abbrev next : Place
     next = reads s byte .place
 
     -- a reply by the table is this one
     abbrev atLength : Bool → FromDevice
-    atLength short = ofDevice buffer (cond short short7 (turn tableCarry s byte))
+    atLength long = ofDevice lent (cond long (turn tableCarry s byte) short7)
 
     abbrev atEvent : Event → FromDevice
-    atEvent e = ofDevice buffer (onEvent tableCarry s next e)
+    atEvent e = ofDevice lent (onEvent tableCarry s next e)
 
     abbrev atRepeat : Message → Bool → FromDevice
-    atRepeat m repeat = ofDevice buffer (cond repeat (again next) (ordered next m (tableCarry (s .books) m)))
+    atRepeat m repeat = ofDevice lent (cond repeat (again next) (ordered next m (tableCarry (s .store) m)))
 
     abbrev atKind : Message → Parsed → FromDevice
-    atKind m p = ofDevice buffer (order next m (tableDeed (s .books) p))
+    atKind m p = ofDevice lent (order next m (tableDeed (s .store .books) p))
 
-    long : 217 ≤ length buffer → (e : Event) → reads s byte .event ≡ e → atLength (ltb (length buffer) 217) ≡ atEvent e
-    long room e f = ap atLength (le-ltb (length buffer) 217 room) ∙ ap atEvent f
+    long : enough lent ≡ true → (e : Event) → reads s byte .event ≡ e → atLength (enough lent) ≡ atEvent e
+    long room e f = ap atLength room ∙ ap atEvent f
 
-    framed : (m : Message) → NewFrame s buffer byte m → (p : Parsed) → parsedOf (m .code) (m .content) ≡ p → atLength (ltb (length buffer) 217) ≡ atKind m p
+    framed : (m : Message) → NewFrame s lent byte m → (p : Parsed) → parsedOf (m .code) (m .content) ≡ p → atLength (enough lent) ≡ atKind m p
     framed m n p f = long (n .room) (heard m) (n .whole) ∙ ap (atRepeat m) (n .new) ∙ ap (atKind m) f
 
-    commanded : (m : Message) (c : kinds.Command) → NewCommand s buffer byte m c → (for3 for4 : Bool) → three (s .books) c ≡ for3 → four (s .books) c ≡ for4
-        → atLength (ltb (length buffer) 217) ≡ ofDevice buffer (order next m (reasoned c for3 for4))
+    commanded : (m : Message) (c : kinds.Command) → NewCommand s lent byte m c → (for3 for4 : Bool) → three (s .store .books) c ≡ for3 → four (s .store .books) c ≡ for4
+        → atLength (enough lent) ≡ ofDevice lent (order next m (reasoned c for3 for4))
     commanded m c n for3 for4 e3 e4 =
         framed m (n .frame) (Read c) (n .kind)
-        ∙ ap (λ z. ofDevice buffer (order next m (reasoned c z (four (s .books) c)))) e3
-        ∙ ap (λ z. ofDevice buffer (order next m (reasoned c for3 z))) e4
+        ∙ ap (λ z. ofDevice lent (order next m (reasoned c z (four (s .store .books) c)))) e3
+        ∙ ap (λ z. ofDevice lent (order next m (reasoned c for3 z))) e4
 
-    pub only-row : (r : FromDevice) → ByDevice s buffer byte r → r ≡ ofDevice buffer (tableTurn (length buffer) byte)
+    pub only-row : (r : FromDevice) → ByDevice s lent byte r → r ≡ ofDevice lent (tableTurn lent byte)
     only-row r (row-0-taken room e) = sym (long room nothing e)
     only-row r (row-0-done m c n e3 e4) = sym (commanded m c n false false e3 e4)
     only-row r (row-1 m n e) = sym (framed m n Syntax e)
     only-row r (row-2 m n e) = sym (framed m n Unknown e)
-    only-row r (row-3 m c n e3) = sym (commanded m c n true (four (s .books) c) e3 refl)
+    only-row r (row-3 m c n e3) = sym (commanded m c n true (four (s .store .books) c) e3 refl)
     only-row r (row-4 m c n e3 e4) = sym (commanded m c n false true e3 e4)
     only-row r (row-5 room e) = sym (long room brokenFrame e)
     only-row r (row-6 m room e f) = sym (long room (heard m) e ∙ ap (atRepeat m) f)
-    only-row r (row-7 short) = sym (ap atLength (lt-ltb (length buffer) 217 short))
+    only-row r (row-7 short) = sym (ap atLength short)
 
     -- and every byte has its row
-    by-reasons : (m : Message) (c : kinds.Command) → NewCommand s buffer byte m c → (for3 for4 : Bool) → three (s .books) c ≡ for3 → four (s .books) c ≡ for4
-        → ByDevice s buffer byte (ofDevice buffer (order next m (reasoned c for3 for4)))
+    by-reasons : (m : Message) (c : kinds.Command) → NewCommand s lent byte m c → (for3 for4 : Bool) → three (s .store .books) c ≡ for3 → four (s .store .books) c ≡ for4
+        → ByDevice s lent byte (ofDevice lent (order next m (reasoned c for3 for4)))
     by-reasons m c n true for4 e3 e4 = row-3 m c n e3
     by-reasons m c n false true e3 e4 = row-4 m c n e3 e4
     by-reasons m c n false false e3 e4 = row-0-done m c n e3 e4
 
-    by-kind : (m : Message) → NewFrame s buffer byte m → (p : Parsed) → parsedOf (m .code) (m .content) ≡ p
-        → ByDevice s buffer byte (ofDevice buffer (order next m (tableDeed (s .books) p)))
+    by-kind : (m : Message) → NewFrame s lent byte m → (p : Parsed) → parsedOf (m .code) (m .content) ≡ p
+        → ByDevice s lent byte (ofDevice lent (order next m (tableDeed (s .store .books) p)))
     by-kind m n Syntax e = row-1 m n e
     by-kind m n Unknown e = row-2 m n e
-    by-kind m n (Read c) e = by-reasons m c (record { frame = n; kind = e }) (three (s .books) c) (four (s .books) c) refl refl
+    by-kind m n (Read c) e = by-reasons m c (record { frame = n; kind = e }) (three (s .store .books) c) (four (s .store .books) c) refl refl
 
-    by-event : 217 ≤ length buffer → (e : Event) → reads s byte .event ≡ e → ByDevice s buffer byte (ofDevice buffer (onEvent tableCarry s next e))
+    by-event : enough lent ≡ true → (e : Event) → reads s byte .event ≡ e → ByDevice s lent byte (ofDevice lent (onEvent tableCarry s next e))
     by-event room nothing e = row-0-taken room e
     by-event room brokenFrame e = row-5 room e
     by-event room (heard m) e = go (repeats (s .before) m) refl
       where
-        go : (repeat : Bool) → repeats (s .before) m ≡ repeat → ByDevice s buffer byte (ofDevice buffer (cond repeat (again next) (ordered next m (tableCarry (s .books) m))))
+        go : (repeat : Bool) → repeats (s .before) m ≡ repeat → ByDevice s lent byte (ofDevice lent (cond repeat (again next) (ordered next m (tableCarry (s .store) m))))
         go true f = row-6 m room e f
         go false f = by-kind m (record { room = room; whole = e; new = f }) (parsedOf (m .code) (m .content)) refl
 
-    pub has-its-row : ByDevice s buffer byte (ofDevice buffer (tableTurn (length buffer) byte))
-    has-its-row = go (ltb (length buffer) 217) refl
+    pub has-its-row : ByDevice s lent byte (ofDevice lent (tableTurn lent byte))
+    has-its-row = go (enough lent) refl
       where
-        go : (short : Bool) → ltb (length buffer) 217 ≡ short → ByDevice s buffer byte (ofDevice buffer (cond short short7 (turn tableCarry s byte)))
-        go true e = row-7 (ltb-true (length buffer) 217 e)
-        go false e = by-event (ltb-false (length buffer) 217 e) (reads s byte .event) refl
+        go : (long : Bool) → enough lent ≡ long → ByDevice s lent byte (ofDevice lent (cond long (turn tableCarry s byte) short7))
+        go true e = by-event e (reads s byte .event) refl
+        go false e = row-7 e
 
 -- the device's own turn, where its books are sound
 carried-by : (b : Books) → sound b ≡ true → (p : Parsed) → Right p → deedFor b p ≡ tableDeed b p
@@ -135,14 +133,14 @@ carried-by b e Unknown no-kind = refl
 carried-by b e (Read c) (is-read r) =
     ap (λ z. cond z (kept b (deedOf b c)) (refusedWith 1 b)) r ∙ ap (λ z. cond z (deedOf b c) (refusedWith 4 b)) e ∙ judged-by-its-reasons b c r
 
-same-carry : (b : Books) → sound b ≡ true → (m : Message) → carry b m ≡ tableCarry b m
-same-carry b e m = ap (carriedAs b (m .seq) (m .code)) (carried-by b e (parsedOf (m .code) (m .content)) (parsed-right (m .code) (m .content)))
+same-carry : (s : Store) → sound (s .books) ≡ true → (m : Message) → carry s m ≡ tableCarry s m
+same-carry s e m = ap (carriedAs s (m .seq) (m .code)) (carried-by (s .books) e (parsedOf (m .code) (m .content)) (parsed-right (m .code) (m .content)))
 
-module _ (s : State Books) (e : sound (s .books) ≡ true) where
+module _ (s : State Store) (e : sound (s .store .books) ≡ true) where
   same-event : (next : Place) (x : Event) → onEvent carry s next x ≡ onEvent tableCarry s next x
   same-event next nothing = refl
   same-event next brokenFrame = refl
-  same-event next (heard m) = ap (λ k. cond (repeats (s .before) m) (again s next) (ordered s next m k)) (same-carry (s .books) e m)
+  same-event next (heard m) = ap (λ k. cond (repeats (s .before) m) (again s next) (ordered s next m k)) (same-carry (s .store) e m)
 
-  pub as-the-table : (room byte : ℕ) → lentTurn room s byte ≡ tableTurn s room byte
-  as-the-table room byte = ap (cond (ltb room 217) (short7 s)) (same-event (read Command (s .place) byte .place) (read Command (s .place) byte .event))
+  pub as-the-table : (lent : Lent) (byte : ℕ) → lentTurn lent s byte ≡ tableTurn s lent byte
+  as-the-table lent byte = ap (λ z. cond (enough lent) z (short7 s)) (same-event (read Command (s .place) byte .place) (read Command (s .place) byte .event))

@@ -4,7 +4,6 @@ use mathlib.Core.Bool.{Bool, true, false, cond}
 use mathlib.Core.List.{List, [], _∷_, _++_, append-assoc}
 use Prim.Native.Nat.{ℕ, _+_, _-_}
 use native.Mathlib.Omega.{arith}
-use lib.Dec.{ltb}
 use lib.ListN.{length, take, drop, length-append}
 use lib.Seq.{take-at}
 use Rattle.text.specs.Digits.{digits, number}
@@ -26,16 +25,20 @@ use Rattle.answers.specs.Status.{statusOf}
 use Rattle.answers.proofs.Shown.{field-shows}
 use Rattle.deeds.specs.Deeds.{carriedOut}
 use Rattle.deeds.specs.declared.Deed.{Deed}
-use Rattle.line.specs.Turns.{was, State, Turn, Session, repeats, lastAnswer, onEvent, turn, session}
-use Rattle.device.specs.Carrying.{deedFor, answerTo, carry}
+use Rattle.line.specs.Turns.{was, State, Turn, Session, repeats, onEvent, turn, session}
+use Rattle.store.specs.Store.{Store}
+use Rattle.device.specs.Device.{enough}
+use Rattle.carrying.specs.Carrying.{deedFor, answerTo, carry}
 use Rattle.history.specs.Agrees.{Agrees}
 use Rattle.history.specs.Entries.{Entry, entryOf}
 use Rattle.history.specs.Reached.{Reached}
 use Rattle.history.proofs.Digits.{digits-fit}
 use Rattle.history.proofs.Histories.{fresh-agrees, agreement-stays}
 use Rattle.history.proofs.Laws.{seventy-shows-the-drawer}
-use Rattle.history.proofs.Reaching.{fresh-reached, reached-stays}
+use Rattle.history.proofs.Reaching.{fresh-reached}
 use Rattle.promises.specs.Demand2.{LentByte, alwaysLent, turnBy, turnsOf, deviceAfter, allGiven, allCarried, dataIn, withRead, withTurn, toldBy, freshDevice, entriesOf, booksAfter, cashIn}
+use Rattle.promises.proofs.Demand1.{deed-stays}
+use Rattle.promises.proofs.DeviceRows.{again, short7}
 use Rattle.promises.proofs.Verdicts.{Right, syntax, no-kind, is-read, parsed-right, right-priced}
 
 -- the data stands in an answer's frame where it is read from
@@ -61,35 +64,27 @@ told-as-done : (b : Books) (seq code : ℕ) (c : Command) (d : Deed) → _≡_ {
 told-as-done b seq code c d =
     ap (λ (z : List ℕ). record { command = c; number = d .number; shown = z }) (data-read seq code (contentOf (d .shown) (b .day) (d .books)) (statusOf (d .number) (d .books)) refl)
 
-pub deed-reached : (b : Books) (x : Parsed) → Reached b → Reached (deedFor b x .books)
-deed-reached b (Read c) r = reached-stays b c r
-deed-reached b Syntax r = r
-deed-reached b Unknown r = r
-
 -- the three ways of a turn: nothing carried out, a repeat, and a frame read in some way and carried out
-abbrev again : State Books → Place → Turn Books
-again s next = record { number = 6; gives = lastAnswer (s .before); carried = []; state = record { place = next; before = s .before; books = s .books } }
-
-module _ (s : State Books) (next : Place) (m : Message) where
+module _ (s : State Store) (next : Place) (m : Message) where
   abbrev answerAs : Parsed → List ℕ
-  answerAs x = frame kind.Answer (answerTo (s .books) (m .seq) (m .code) (deedFor (s .books) x))
+  answerAs x = frame kind.Answer (answerTo (s .store .books) (m .seq) (m .code) (deedFor (s .store .books) x))
 
-  abbrev orderAs : Parsed → Turn Books
+  abbrev orderAs : Parsed → Turn Store
   orderAs x =
       record {
-        number = deedFor (s .books) x .number;
+        number = deedFor (s .store .books) x .number;
         gives = answerAs x;
         carried = m ∷ [];
-        state = record { place = next; before = was (m .seq) (m .code) (answerAs x); books = deedFor (s .books) x .books };
+        state = record { place = next; before = was (m .seq) (m .code) (answerAs x); store = record { books = deedFor (s .store .books) x .books } };
       }
 
-  abbrev order : Turn Books
+  abbrev order : Turn Store
   order = orderAs (parsedOf (m .code) (m .content))
 
 -- what holds of every turn that carries out nothing and leaves the books, and of every one that carries out its frame, holds of every turn
-every-turn : (P : Turn Books → Type 0) (s : State Books)
-    → ((t : Turn Books) → t .carried ≡ [] → t .state .books ≡ s .books → P t) → ((next : Place) (m : Message) → P (order s next m)) → (a : LentByte) → P (turnBy s a)
-every-turn P s quiet carries a = go (ltb (a .room) 217)
+every-turn : (P : Turn Store → Type 0) (s : State Store)
+    → ((t : Turn Store) → t .carried ≡ [] → t .state .store ≡ s .store → P t) → ((next : Place) (m : Message) → P (order s next m)) → (a : LentByte) → P (turnBy s a)
+every-turn P s quiet carries a = go (enough (a .lent))
   where
     whole : (next : Place) (m : Message) (repeat : Bool) → P (cond repeat (again s next) (order s next m))
     whole next m true = quiet (again s next) refl refl
@@ -100,19 +95,19 @@ every-turn P s quiet carries a = go (ltb (a .room) 217)
     event next brokenFrame = quiet (onEvent carry s next brokenFrame) refl refl
     event next (heard m) = whole next m (repeats (s .before) m)
 
-    go : (short : Bool) → P (cond short (record { number = 7; gives = []; carried = []; state = s }) (turn carry s (a .byte)))
-    go true = quiet (record { number = 7; gives = []; carried = []; state = s }) refl refl
-    go false = event (read kind.Command (s .place) (a .byte) .place) (read kind.Command (s .place) (a .byte) .event)
+    go : (long : Bool) → P (cond long (turn carry s (a .byte)) (short7 s))
+    go true = event (read kind.Command (s .place) (a .byte) .place) (read kind.Command (s .place) (a .byte) .event)
+    go false = quiet (short7 s) refl refl
 
 -- books that can be reached, and entries in agreement with them, stay so
-module _ (es : List Entry) (s : State Books) (r : Reached (s .books)) (h : Agrees es (s .books)) where
-  abbrev Stays : Turn Books → Type 0
-  Stays t = Reached (t .state .books) × Agrees (withTurn t (t .carried) es) (t .state .books)
+module _ (es : List Entry) (s : State Store) (r : Reached (s .store .books)) (h : Agrees es (s .store .books)) where
+  abbrev Stays : Turn Store → Type 0
+  Stays t = Reached (t .state .store .books) × Agrees (withTurn t (t .carried) es) (t .state .store .books)
 
-  read-agrees : (next : Place) (m : Message) (x : Parsed) → Right x → Agrees (withRead (orderAs s next m x) x es) (deedFor (s .books) x .books)
+  read-agrees : (next : Place) (m : Message) (x : Parsed) → Right x → Agrees (withRead (orderAs s next m x) x es) (deedFor (s .store .books) x .books)
   read-agrees next m (Read c) (is-read k) =
-      subst (λ e. Agrees (e ∷ es) (carriedOut (s .books) c .books)) (sym (told-as-done (s .books) (m .seq) (m .code) c (carriedOut (s .books) c)))
-      (agreement-stays es (s .books) c r (right-priced c k) h)
+      subst (λ e. Agrees (e ∷ es) (carriedOut (s .store .books) c .books)) (sym (told-as-done (s .store .books) (m .seq) (m .code) c (carriedOut (s .store .books) c)))
+      (agreement-stays es (s .store .books) c r (right-priced c k) h)
   read-agrees next m Syntax syntax = h
   read-agrees next m Unknown no-kind = h
 
@@ -121,13 +116,13 @@ module _ (es : List Entry) (s : State Books) (r : Reached (s .books)) (h : Agree
       every-turn Stays s quiet
       (λ next m.
       let x = parsedOf (m .code) (m .content) in
-      (deed-reached (s .books) x r, read-agrees next m x (parsed-right (m .code) (m .content))))
+      (deed-stays (s .store .books) x r, read-agrees next m x (parsed-right (m .code) (m .content))))
     where
-      quiet : (t : Turn Books) → t .carried ≡ [] → t .state .books ≡ s .books → Stays t
-      quiet t none same = (subst Reached (sym same) r, subst (λ ms. Agrees (withTurn t ms es) (t .state .books)) (sym none) (subst (Agrees es) (sym same) h))
+      quiet : (t : Turn Store) → t .carried ≡ [] → t .state .store ≡ s .store → Stays t
+      quiet t none same = (subst (λ (z : Store). Reached (z .books)) (sym same) r, subst (λ ms. Agrees (withTurn t ms es) (t .state .store .books)) (sym none) (subst (λ (z : Store). Agrees es (z .books)) (sym same) h))
 
-history-stays : (es : List Entry) (s : State Books) (arrived : List LentByte) → Reached (s .books) → Agrees es (s .books)
-    → Reached (deviceAfter s arrived .books) × Agrees (toldBy es (turnsOf s arrived)) (deviceAfter s arrived .books)
+history-stays : (es : List Entry) (s : State Store) (arrived : List LentByte) → Reached (s .store .books) → Agrees es (s .store .books)
+    → Reached (deviceAfter s arrived .store .books) × Agrees (toldBy es (turnsOf s arrived)) (deviceAfter s arrived .store .books)
 history-stays es s [] r h = (r, h)
 history-stays es s (a ∷ more) r h =
     let now = turn-stays es s r h a in
@@ -140,19 +135,19 @@ pub any-history-agrees : (arrived : List LentByte) → Agrees (entriesOf arrived
 any-history-agrees arrived = history-stays [] freshDevice arrived fresh-reached fresh-agrees .1
 
 -- one byte more
-pub device-after-one : (s : State Books) (arrived : List LentByte) (a : LentByte) → deviceAfter s (arrived ++ a ∷ []) ≡ turnBy (deviceAfter s arrived) a .state
+pub device-after-one : (s : State Store) (arrived : List LentByte) (a : LentByte) → deviceAfter s (arrived ++ a ∷ []) ≡ turnBy (deviceAfter s arrived) a .state
 device-after-one s [] a = refl
 device-after-one s (x ∷ more) a = device-after-one (turnBy s x .state) more a
 
 -- a recording is a history with 217 bytes lent each time
-abbrev pub turnsTogether : State Books → List LentByte → Session Books
+abbrev pub turnsTogether : State Store → List LentByte → Session Store
 turnsTogether s arrived = record { gives = allGiven (turnsOf s arrived); carried = allCarried (turnsOf s arrived); state = deviceAfter s arrived }
 
-pub session-turns : (s : State Books) (bytes : List ℕ) → session carry s bytes ≡ turnsTogether s (alwaysLent bytes)
+pub session-turns : (s : State Store) (bytes : List ℕ) → session carry s bytes ≡ turnsTogether s (alwaysLent bytes)
 session-turns s [] = refl
 session-turns s (b ∷ bs) =
-    let t : Turn Books = turn carry s b in
-    ap (λ (z : Session Books). record { gives = t .gives ++ z .gives; carried = t .carried ++ z .carried; state = z .state }) (session-turns (t .state) bs)
+    let t : Turn Store = turn carry s b in
+    ap (λ (z : Session Store). record { gives = t .gives ++ z .gives; carried = t .carried ++ z .carried; state = z .state }) (session-turns (t .state) bs)
 
 -- 70: the field of an answer that shows the drawer is its cash
 cash-shown : (s : Shown) (day : List ℕ) (b : Books) → s ≡ shown.InDrawer → Reached b → cashIn (contentOf s day b) ≡ b .drawer .cash
@@ -161,16 +156,16 @@ cash-shown s day b e r =
     ∙ ap (number 0) (take-at (digits 12 (b .drawer .cash)) (commaEach (digits 12 (b .drawer .put) ∷ digits 12 (b .drawer .taken) ∷ [])) 12 (length-digits 12 (b .drawer .cash)))
     ∙ field-shows 12 (b .drawer .cash) .0 (digits-fit b r .cash)
 
-module _ (s : State Books) (r : Reached (s .books)) (m : Message) (service : Service) (is70 : parsedOf (m .code) (m .content) ≡ Read (Drawer service)) where
-  abbrev Shows : Turn Books → Type 0
-  Shows t = t .carried ≡ m ∷ [] → t .number ≡ 0 → cashIn (dataIn (t .gives)) ≡ t .state .books .drawer .cash
+module _ (s : State Store) (r : Reached (s .store .books)) (m : Message) (service : Service) (is70 : parsedOf (m .code) (m .content) ≡ Read (Drawer service)) where
+  abbrev Shows : Turn Store → Type 0
+  Shows t = t .carried ≡ m ∷ [] → t .number ≡ 0 → cashIn (dataIn (t .gives)) ≡ t .state .store .books .drawer .cash
 
-  shows : (next : Place) (n : Message) (x : Parsed) → x ≡ Read (Drawer service) → orderAs s next n x .number ≡ 0 → cashIn (dataIn (answerAs s next n x)) ≡ deedFor (s .books) x .books .drawer .cash
+  shows : (next : Place) (n : Message) (x : Parsed) → x ≡ Read (Drawer service) → orderAs s next n x .number ≡ 0 → cashIn (dataIn (answerAs s next n x)) ≡ deedFor (s .store .books) x .books .drawer .cash
   shows next n x e z =
-      let d = deedFor (s .books) x in
-      let drawer : d .shown ≡ shown.InDrawer = ap (λ y. deedFor (s .books) y .shown) e ∙ seventy-shows-the-drawer (s .books) service (sym (ap (λ y. deedFor (s .books) y .number) e) ∙ z) in
-      ap cashIn (data-read (n .seq) (n .code) (contentOf (d .shown) (s .books .day) (d .books)) (statusOf (d .number) (d .books)) refl)
-      ∙ cash-shown (d .shown) (s .books .day) (d .books) drawer (deed-reached (s .books) x r)
+      let d = deedFor (s .store .books) x in
+      let drawer : d .shown ≡ shown.InDrawer = ap (λ y. deedFor (s .store .books) y .shown) e ∙ seventy-shows-the-drawer (s .store .books) service (sym (ap (λ y. deedFor (s .store .books) y .number) e) ∙ z) in
+      ap cashIn (data-read (n .seq) (n .code) (contentOf (d .shown) (s .store .books .day) (d .books)) (statusOf (d .number) (d .books)) refl)
+      ∙ cash-shown (d .shown) (s .store .books .day) (d .books) drawer (deed-stays (s .store .books) x r)
 
   pub cash-in-answer : (a : LentByte) → Shows (turnBy s a)
   cash-in-answer =

@@ -12,7 +12,7 @@ use Rattle.promises.specs.Demand2.{LentByte, turnsOf, dataIn, freshDevic
 
 -- a command, with a buffer of this length lent for each of its bytes
 abbrev sent : ℕ → ℕ → ℕ → List ℕ → List LentByte
-sent room seq code content = map (λ b. record { room = room; byte = b }) (frame Command (commandOf seq code content))
+sent room seq code content = map (λ b. record { lent = record { buffer = replicate room 0 }; byte = b }) (frame Command (commandOf seq code content))
 
 -- 49 `Tab B12.67`
 abbrev sale : ℕ → List LentByte

@@ -1,5 +1,5 @@
 -- Demand 1 at the device. The table of PROTOCOL 2.1, row by row: what each row means, what is given back, what stays, and every byte of the lent buffer.
-use Prim.Native.Nat.{ℕ, _≤_, _<_}
+use Prim.Native.Nat.{ℕ}
 use mathlib.Core.Path.{_≡_}
 use mathlib.Core.Bool.{true, false}
 use mathlib.Core.List.{List, [], _∷_}
@@ -17,41 +17,44 @@ use Rattle.command.specs.Commands.{parsedOf}
 use Rattle.deeds.specs.Reasons.{three, four}
 use Rattle.deeds.specs.Effects.{effect, shows}
 use Rattle.line.specs.Turns.{was, State, repeats, lastAnswer}
+use Rattle.store.specs.Store.{Store}
+use Rattle.device.specs.Device.{Lent, enough}
 
--- PROTOCOL 1.1, 2.1: what comes from the device for one byte: its reply number, how many bytes are given back and which, the lent buffer and the device
+-- PROTOCOL 1.1, 2.1: what comes from the device for one byte: its reply number, how many bytes are given back and which, what was lent and the device
 -- afterwards
 pub record FromDevice : Type 0 where
   pub number : ℕ
   pub count : ℕ
   pub bytes : List ℕ
-  pub buffer : List ℕ
-  pub device : State Books
+  pub lent : Lent
+  pub device : State Store
 
 -- PROTOCOL 2.5: what is given back stands at the front of the lent buffer, and the bytes behind it stay as they were
-abbrev pub tells : ℕ → List ℕ → List ℕ → State Books → FromDevice
-tells number bytes buffer after = record { number = number; count = length bytes; bytes = bytes; buffer = sets buffer 0 bytes; device = after }
+abbrev pub tells : ℕ → List ℕ → Lent → State Store → FromDevice
+tells number bytes lent after =
+    record { number = number; count = length bytes; bytes = bytes; lent = record { buffer = sets (lent .buffer) 0 bytes }; device = after }
 
 -- PROTOCOL 1.7: what the byte is to the frame that is being read, and where reading stands behind it
-abbrev pub reads : State Books → ℕ → Read
+abbrev pub reads : State Store → ℕ → Read
 reads s byte = read Command (s .place) byte
 
 -- PROTOCOL 2.1: all but where reading stands is as it was
-abbrev pub moved : State Books → ℕ → State Books
-moved s byte = record { place = reads s byte .place; before = s .before; books = s .books }
+abbrev pub moved : State Store → ℕ → State Store
+moved s byte = record { place = reads s byte .place; before = s .before; store = s .store }
 
--- PROTOCOL 1.11: a command done, and one refused (1 to 4), becomes the frame before, with its answer; these are the books from then on
-abbrev pub remembers : State Books → ℕ → Message → List ℕ → Books → State Books
-remembers s byte m answer b = record { place = reads s byte .place; before = was (m .seq) (m .code) answer; books = b }
+-- PROTOCOL 1.11: a command done, and one refused (1 to 4), becomes the frame before, with its answer; this is what is remembered from then on
+abbrev pub remembers : State Store → ℕ → Message → List ℕ → Store → State Store
+remembers s byte m answer after = record { place = reads s byte .place; before = was (m .seq) (m .code) answer; store = after }
 
--- PROTOCOL 2.4, 1.11: with 217 bytes lent, a whole frame that is no repeat
-pub record NewFrame (s : State Books) (buffer : List ℕ) (byte : ℕ) (m : Message) : Type 0 where
-  pub room : 217 ≤ length buffer
+-- PROTOCOL 2.4, 1.11: with enough lent, a whole frame that is no repeat
+pub record NewFrame (s : State Store) (lent : Lent) (byte : ℕ) (m : Message) : Type 0 where
+  pub room : enough lent ≡ true
   pub whole : reads s byte .event ≡ heard m
   pub new : repeats (s .before) m ≡ false
 
 -- PROTOCOL 5.1: and it is read as one of the fourteen kinds
-pub record NewCommand (s : State Books) (buffer : List ℕ) (byte : ℕ) (m : Message) (c : kinds.Command) : Type 0 where
-  pub frame : NewFrame s buffer byte m
+pub record NewCommand (s : State Store) (lent : Lent) (byte : ℕ) (m : Message) (c : kinds.Command) : Type 0 where
+  pub frame : NewFrame s lent byte m
   pub kind : parsedOf (m .code) (m .content) ≡ parsed.Read c
 
 -- PROTOCOL 1.2, 3.2, 3.3: the answer to a command, with its SEQ and CMD: two status bytes tell the verdict, the other four the books behind it. Bit k of a
@@ -65,29 +68,33 @@ answerWith m content first second b =
 abbrev pub doneWith : Books → Message → kinds.Command → List ℕ
 doneWith b m c = answerWith m (contentOf (shows b c) (b .day) (effect b c)) 0x80 0x80 (effect b c)
 
+-- PROTOCOL chapter 5: what it leaves
+abbrev pub leavesOf : Store → kinds.Command → Store
+leavesOf s c = record { books = effect (s .books) c }
+
 -- PROTOCOL 2.1, at the device
-pub data ByDevice (s : State Books) (buffer : List ℕ) (byte : ℕ) : FromDevice → Type 0 where
+pub data ByDevice (s : State Store) (lent : Lent) (byte : ℕ) : FromDevice → Type 0 where
   -- 0, a byte taken: nothing is given back; all but where reading stands is as it was
-  row-0-taken : 217 ≤ length buffer → reads s byte .event ≡ nothing → ByDevice s buffer byte (tells 0 [] buffer (moved s byte))
+  row-0-taken : enough lent ≡ true → reads s byte .event ≡ nothing → ByDevice s lent byte (tells 0 [] lent (moved s byte))
   -- 0, done: no reason for 3 and none for 4; an answer, with verdict 80 80 (3.2); what changes is the command's effect
-  row-0-done : (m : Message) (c : kinds.Command) → NewCommand s buffer byte m c → three (s .books) c ≡ false → four (s .books) c ≡ false
-      → ByDevice s buffer byte (tells 0 (doneWith (s .books) m c) buffer (remembers s byte m (doneWith (s .books) m c) (effect (s .books) c)))
+  row-0-done : (m : Message) (c : kinds.Command) → NewCommand s lent byte m c → three (s .store .books) c ≡ false → four (s .store .books) c ≡ false
+      → ByDevice s lent byte (tells 0 (doneWith (s .store .books) m c) lent (remembers s byte m (doneWith (s .store .books) m c) (leavesOf (s .store) c)))
   -- 1, syntax: an answer with no data and verdict A1 80 (3.2); the books stay, counters and closings too (2.3)
-  row-1 : (m : Message) → NewFrame s buffer byte m → parsedOf (m .code) (m .content) ≡ parsed.Syntax
-      → ByDevice s buffer byte (tells 1 (answerWith m [] 0xA1 0x80 (s .books)) buffer (remembers s byte m (answerWith m [] 0xA1 0x80 (s .books)) (s .books)))
+  row-1 : (m : Message) → NewFrame s lent byte m → parsedOf (m .code) (m .content) ≡ parsed.Syntax
+      → ByDevice s lent byte (tells 1 (answerWith m [] 0xA1 0x80 (s .store .books)) lent (remembers s byte m (answerWith m [] 0xA1 0x80 (s .store .books)) (s .store)))
   -- 2, unknown command: the same with verdict A2 80
-  row-2 : (m : Message) → NewFrame s buffer byte m → parsedOf (m .code) (m .content) ≡ parsed.Unknown
-      → ByDevice s buffer byte (tells 2 (answerWith m [] 0xA2 0x80 (s .books)) buffer (remembers s byte m (answerWith m [] 0xA2 0x80 (s .books)) (s .books)))
+  row-2 : (m : Message) → NewFrame s lent byte m → parsedOf (m .code) (m .content) ≡ parsed.Unknown
+      → ByDevice s lent byte (tells 2 (answerWith m [] 0xA2 0x80 (s .store .books)) lent (remembers s byte m (answerWith m [] 0xA2 0x80 (s .store .books)) (s .store)))
   -- 3, not permitted now: a reason for 3; the same with verdict A0 82
-  row-3 : (m : Message) (c : kinds.Command) → NewCommand s buffer byte m c → three (s .books) c ≡ true
-      → ByDevice s buffer byte (tells 3 (answerWith m [] 0xA0 0x82 (s .books)) buffer (remembers s byte m (answerWith m [] 0xA0 0x82 (s .books)) (s .books)))
+  row-3 : (m : Message) (c : kinds.Command) → NewCommand s lent byte m c → three (s .store .books) c ≡ true
+      → ByDevice s lent byte (tells 3 (answerWith m [] 0xA0 0x82 (s .store .books)) lent (remembers s byte m (answerWith m [] 0xA0 0x82 (s .store .books)) (s .store)))
   -- 4, overflow: no reason for 3 and one for 4; the same with verdict A0 83
-  row-4 : (m : Message) (c : kinds.Command) → NewCommand s buffer byte m c → three (s .books) c ≡ false → four (s .books) c ≡ true
-      → ByDevice s buffer byte (tells 4 (answerWith m [] 0xA0 0x83 (s .books)) buffer (remembers s byte m (answerWith m [] 0xA0 0x83 (s .books)) (s .books)))
+  row-4 : (m : Message) (c : kinds.Command) → NewCommand s lent byte m c → three (s .store .books) c ≡ false → four (s .store .books) c ≡ true
+      → ByDevice s lent byte (tells 4 (answerWith m [] 0xA0 0x83 (s .store .books)) lent (remembers s byte m (answerWith m [] 0xA0 0x83 (s .store .books)) (s .store)))
   -- 5, broken frame: NAK (1.8); all but where reading stands is as it was
-  row-5 : 217 ≤ length buffer → reads s byte .event ≡ brokenFrame → ByDevice s buffer byte (tells 5 (0x15 ∷ []) buffer (moved s byte))
+  row-5 : enough lent ≡ true → reads s byte .event ≡ brokenFrame → ByDevice s lent byte (tells 5 (0x15 ∷ []) lent (moved s byte))
   -- 6, repeat: the last answer (1.10); all but where reading stands is as it was
-  row-6 : (m : Message) → 217 ≤ length buffer → reads s byte .event ≡ heard m → repeats (s .before) m ≡ true
-      → ByDevice s buffer byte (tells 6 (lastAnswer (s .before)) buffer (moved s byte))
+  row-6 : (m : Message) → enough lent ≡ true → reads s byte .event ≡ heard m → repeats (s .before) m ≡ true
+      → ByDevice s lent byte (tells 6 (lastAnswer (s .before)) lent (moved s byte))
   -- 7, less than 217 bytes lent: nothing is given back; the byte is not taken, and everything stays (2.4)
-  row-7 : length buffer < 217 → ByDevice s buffer byte (tells 7 [] buffer s)
+  row-7 : enough lent ≡ false → ByDevice s lent byte (tells 7 [] lent s)

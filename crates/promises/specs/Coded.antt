@@ -1,17 +1,12 @@
 -- The code, call by call: any list of calls of the device's `hear` and of the till end's `command`, `byte` and `timeout`, with any bytes and any lent buffers,
 -- on the fields and arrays that each call hands to the next. What the functions promise of a call is what the table says of the events in it.
-use Prim.Native.Nat.{ℕ, _+_, _≤_, _<_}
+use Prim.Native.Nat.{ℕ, _+_}
 use mathlib.Core.Path.{_≡_}
 use mathlib.Core.Bool.{Bool, true, false}
 use mathlib.Core.List.{List, [], _∷_, _++_}
 use lib.ListN.{length, take, drop}
 use lib.Seq.{sets}
-use Rattle.reader.specs.Reading.{outside, Event, nothing, brokenFrame, heard}
-use Rattle.reader.specs.Fields.{readerOf}
-use Rattle.books.specs.Books.{freshBooks}
-use Rattle.books.specs.declared.Books.{Books}
-use Rattle.line.specs.declared.Line.{Line}
-use Rattle.line.specs.declared.Previous.the-variants.{Nothing}
+use Rattle.reader.specs.Reading.{Event, nothing, brokenFrame, heard}
 use Rattle.device.specs.Device as device
 use Rattle.device.specs.Hearing.{PartHeard, afterPart}
 use Rattle.till.specs.Turns as till
@@ -24,37 +19,33 @@ use Rattle.promises.specs.AtDevice.{FromDevice, tells, reads}
 use Rattle.promises.specs.AtTill.{FromTill}
 use Rattle.promises.specs.Demand1.{Bench, atDevice, atTill, fromDevice, fromTill, benchAfter, ByTheTable}
 
--- what is handed from call to call: the device's line, books and two arrays, the till end's fields and two arrays
+-- what is handed from call to call: the device's fields and two arrays, the till end's fields and two arrays
 pub record Machines : Type 0 where
-  pub line : Line
-  pub books : Books
-  pub frame : List ℕ
-  pub last : List ℕ
+  pub device : device.Machine
   pub till : Till
   pub sent : List ℕ
   pub answer : List ℕ
 
--- PROTOCOL 8.4, 8.5: as `line::fresh`, `books::fresh` and `till::fresh` give them, with arrays of any contents
+-- PROTOCOL 8.4, 8.5: as `device::fresh` and `till::fresh` give them, with arrays of any contents
 pub record Fresh (f : Machines) : Type 0 where
-  pub line : f .line ≡ record { reader = readerOf outside; previous = Nothing }
-  pub books : f .books ≡ freshBooks
-  pub frame : length (f .frame) ≡ 256
-  pub last : length (f .last) ≡ 217
+  pub device : f .device .device ≡ device.freshFields
+  pub frame : length (f .device .frame) ≡ 256
+  pub last : length (f .device .last) ≡ 217
   pub till : f .till ≡ fields.tillOf till.freshState
   pub sent : length (f .sent) ≡ 256
   pub answer : length (f .answer) ≡ 256
 
 -- the state of both ends that they say
 abbrev pub benchOf : Machines → Bench
-benchOf f = record { device = device.stateOf (f .line) (f .books) (f .frame) (f .last); till = fields.stateOf (f .till) (f .sent) (f .answer) }
+benchOf f = record { device = device.stateOf (f .device); till = fields.stateOf (f .till) (f .sent) (f .answer) }
 
 pub data CodeCall : Type 0 where
-  hear : (buffer bytes : List ℕ) → CodeCall
+  hear : (lent : device.Lent) (bytes : List ℕ) → CodeCall
   happens : (buffer : List ℕ) (h : till.Happening) → CodeCall
 
 -- what the promises say of a call
-abbrev pub partAfter : Machines → (buffer bytes : List ℕ) → PartHeard
-partAfter f buffer bytes = afterPart (f .line) (f .books) (f .frame) (f .last) buffer bytes
+abbrev pub partAfter : Machines → device.Lent → List ℕ → PartHeard
+partAfter f lent bytes = afterPart (f .device) lent bytes
 
 abbrev pub turnAfter : Machines → List ℕ → till.Happening → till.Turn
 turnAfter f buffer h = fields.turnOf (f .till) (f .sent) (f .answer) buffer h
@@ -71,27 +62,22 @@ answerAfter f buffer (till.byte b) = fields.heldIn (f .answer) (turnAfter f buff
 answerAfter f buffer till.timeout = f .answer
 
 abbrev pub handedOn : Machines → CodeCall → Machines
-handedOn f (hear buffer bytes) =
-    let p = partAfter f buffer bytes in
-    record { line = p .hearing .given .line; books = p .hearing .given .books; frame = p .frame; last = p .last; till = f .till; sent = f .sent; answer = f .answer }
+handedOn f (hear lent bytes) = record { device = partAfter f lent bytes .after .machine; till = f .till; sent = f .sent; answer = f .answer }
 handedOn f (happens buffer h) =
     record {
-      line = f .line;
-      books = f .books;
-      frame = f .frame;
-      last = f .last;
+      device = f .device;
       till = fields.saidOf (f .till) (turnAfter f buffer h) .till;
       sent = sentAfter f buffer h;
       answer = answerAfter f buffer h;
     }
 
--- the result of a device's call is a reply: number, count, the bytes given back, every byte of the buffer, and the state that its fields and arrays say
-pub record DeviceResult (p : PartHeard) (r : FromDevice) : Type 0 where
-  pub number : p .hearing .given .number ≡ r .number
-  pub count : p .hearing .given .count ≡ r .count
-  pub bytes : take (p .hearing .given .count) (p .buffer) ≡ r .bytes
-  pub buffer : p .buffer ≡ r .buffer
-  pub state : device.stateOf (p .hearing .given .line) (p .hearing .given .books) (p .frame) (p .last) ≡ r .device
+-- the result of a device's call is a reply: number, count, the bytes given back, every byte of what was lent, and the state that its fields and arrays say
+pub record DeviceResult (a : device.After) (r : FromDevice) : Type 0 where
+  pub number : a .number ≡ r .number
+  pub count : a .count ≡ r .count
+  pub bytes : take (a .count) (a .lent .buffer) ≡ r .bytes
+  pub lent : a .lent ≡ r .lent
+  pub state : device.stateOf (a .machine) ≡ r .device
 
 -- PROTOCOL 7.1: how many bytes a word says are given back; of 9 its number is that of the tries
 abbrev pub givenIn : Word → ℕ
@@ -119,32 +105,32 @@ isAsking brokenFrame = true
 isAsking (heard m) = true
 
 -- a part of bytes by the table, with how many of them are taken and the reply to the last of these: every byte before it is taken with nothing given back
-pub data PartByTheTable (buffer : List ℕ) : Bench → List ℕ → ℕ → FromDevice → Type 0 where
+pub data PartByTheTable (lent : device.Lent) : Bench → List ℕ → ℕ → FromDevice → Type 0 where
   -- PROTOCOL 2.4: 7 before all else: no byte is taken, whichever comes
-  not-taken : {s : Bench} {bytes : List ℕ} {r : FromDevice} → length buffer < 217 → ((byte : ℕ) → ByTheTable s (atDevice buffer byte) (fromDevice r))
-      → PartByTheTable buffer s bytes 0 r
-  no-byte : {s : Bench} → 217 ≤ length buffer → PartByTheTable buffer s [] 0 (tells 0 [] buffer (s .device))
+  not-taken : {s : Bench} {bytes : List ℕ} {r : FromDevice} → device.enough lent ≡ false → ((byte : ℕ) → ByTheTable s (atDevice lent byte) (fromDevice r))
+      → PartByTheTable lent s bytes 0 r
+  no-byte : {s : Bench} → device.enough lent ≡ true → PartByTheTable lent s [] 0 (tells 0 [] lent (s .device))
   -- the first that asks for something ends the call
-  asking-byte : {s : Bench} {byte : ℕ} {bytes : List ℕ} {r : FromDevice} → 217 ≤ length buffer → isAsking (reads (s .device) byte .event) ≡ true
-      → ByTheTable s (atDevice buffer byte) (fromDevice r) → PartByTheTable buffer s (byte ∷ bytes) 1 r
-  quiet-byte : {s : Bench} {byte taken : ℕ} {bytes : List ℕ} {after r : FromDevice} → 217 ≤ length buffer → isAsking (reads (s .device) byte .event) ≡ false
-      → ByTheTable s (atDevice buffer byte) (fromDevice after) → PartByTheTable buffer (benchAfter s (fromDevice after)) bytes taken r
-      → PartByTheTable buffer s (byte ∷ bytes) (taken + 1) r
+  asking-byte : {s : Bench} {byte : ℕ} {bytes : List ℕ} {r : FromDevice} → device.enough lent ≡ true → isAsking (reads (s .device) byte .event) ≡ true
+      → ByTheTable s (atDevice lent byte) (fromDevice r) → PartByTheTable lent s (byte ∷ bytes) 1 r
+  quiet-byte : {s : Bench} {byte taken : ℕ} {bytes : List ℕ} {after r : FromDevice} → device.enough lent ≡ true → isAsking (reads (s .device) byte .event) ≡ false
+      → ByTheTable s (atDevice lent byte) (fromDevice after) → PartByTheTable lent (benchAfter s (fromDevice after)) bytes taken r
+      → PartByTheTable lent s (byte ∷ bytes) (taken + 1) r
 
 -- calls one after the other: at both ends as the table leaves them, and on the fields and arrays as the code leaves them
 pub data CodeByTheTable : Bench → Machines → List CodeCall → Type 0 where
   no-call : {s : Bench} {f : Machines} → CodeByTheTable s f []
-  device-call : {s : Bench} {f : Machines} {buffer bytes : List ℕ} {calls : List CodeCall} (r : FromDevice)
-      → PartByTheTable buffer s bytes (partAfter f buffer bytes .hearing .taken) r → DeviceResult (partAfter f buffer bytes) r
-      → CodeByTheTable (benchAfter s (fromDevice r)) (handedOn f (hear buffer bytes)) calls → CodeByTheTable s f (hear buffer bytes ∷ calls)
+  device-call : {s : Bench} {f : Machines} {lent : device.Lent} {bytes : List ℕ} {calls : List CodeCall} (r : FromDevice)
+      → PartByTheTable lent s bytes (partAfter f lent bytes .taken) r → DeviceResult (partAfter f lent bytes .after) r
+      → CodeByTheTable (benchAfter s (fromDevice r)) (handedOn f (hear lent bytes)) calls → CodeByTheTable s f (hear lent bytes ∷ calls)
   till-call : {s : Bench} {f : Machines} {buffer : List ℕ} {h : till.Happening} {calls : List CodeCall} (r : FromTill)
       → ByTheTable s (atTill buffer h) (fromTill r) → TillResult f buffer h r
       → CodeByTheTable (benchAfter s (fromTill r)) (handedOn f (happens buffer h)) calls → CodeByTheTable s f (happens buffer h ∷ calls)
 
--- calls of `device::hear`, with any buffer lent each time, until every byte of the line is taken: each hears a part of what is not taken yet, as `printer`
+-- calls of `device::hear`, with anything lent each time, until every byte of the line is taken: each hears a part of what is not taken yet, as `printer`
 -- does with all that it reads. What they give back, one after the other, and the fields and arrays behind them
 pub data HeardThrough : Machines → (bytes gives : List ℕ) → Machines → Type 0 where
   all-taken : {f : Machines} → HeardThrough f [] [] f
-  one-call : {f g : Machines} {gives : List ℕ} (buffer part rest : List ℕ)
-      → HeardThrough (handedOn f (hear buffer part)) (drop (partAfter f buffer part .hearing .taken) part ++ rest) gives g
-      → HeardThrough f (part ++ rest) (take (partAfter f buffer part .hearing .given .count) (partAfter f buffer part .buffer) ++ gives) g
+  one-call : {f g : Machines} {gives : List ℕ} (lent : device.Lent) (part rest : List ℕ)
+      → HeardThrough (handedOn f (hear lent part)) (drop (partAfter f lent part .taken) part ++ rest) gives g
+      → HeardThrough f (part ++ rest) (take (partAfter f lent part .after .count) (partAfter f lent part .after .lent .buffer) ++ gives) g

@@ -2,8 +2,8 @@
 -- `AtTill` say its rows. Both ends stay within their memory: every function of the code is proved to reach no byte outside what is lent to it.
 use Prim.Native.Nat.{ℕ}
 use mathlib.Core.List.{List, [], _∷_}
-use Rattle.books.specs.Books.{freshBooks}
-use Rattle.books.specs.declared.Books.{Books}
+use Rattle.store.specs.Store.{Store, freshStore}
+use Rattle.device.specs.Device.{Lent}
 use Rattle.line.specs.Turns as line
 use Rattle.till.specs.Turns as till
 use Rattle.promises.specs.AtDevice.{FromDevice, ByDevice}
@@ -11,15 +11,15 @@ use Rattle.promises.specs.AtTill.{FromTill, ByTill}
 
 -- PROTOCOL 1.1: both ends; 8.4, 8.5: fresh ones
 pub record Bench : Type 0 where
-  pub device : line.State Books
+  pub device : line.State Store
   pub till : till.State
 
 abbrev pub freshBench : Bench
-freshBench = record { device = line.switchedOn freshBooks; till = till.freshState }
+freshBench = record { device = line.switchedOn freshStore; till = till.freshState }
 
--- PROTOCOL 2.4: what comes, with the buffer that is lent for it: any length, any contents
+-- PROTOCOL 2.4: what comes, with what is lent for it: any length, any contents
 pub data Comes : Type 0 where
-  atDevice : (buffer : List ℕ) (byte : ℕ) → Comes
+  atDevice : (lent : Lent) (byte : ℕ) → Comes
   atTill : (buffer : List ℕ) (h : till.Happening) → Comes
 
 -- PROTOCOL 2.1: what either end replies
@@ -34,7 +34,7 @@ benchAfter s (fromTill r) = record { device = s .device; till = r .till }
 
 -- PROTOCOL 2.1: a reply by the table
 pub data ByTheTable (s : Bench) : Comes → Outcome → Type 0 where
-  at-device : {buffer : List ℕ} {byte : ℕ} {r : FromDevice} → ByDevice (s .device) buffer byte r → ByTheTable s (atDevice buffer byte) (fromDevice r)
+  at-device : {lent : Lent} {byte : ℕ} {r : FromDevice} → ByDevice (s .device) lent byte r → ByTheTable s (atDevice lent byte) (fromDevice r)
   at-till : {buffer : List ℕ} {h : till.Happening} {r : FromTill} → ByTill (s .till) buffer h r → ByTheTable s (atTill buffer h) (fromTill r)
 
 -- the replies of a history: each by the table, at both ends as the reply before left them

@@ -2,45 +2,45 @@
 -- arrive at a fresh device, each with some buffer lent, and what its turns gave back.
 use Prim.Native.Nat.{ℕ, _-_}
 use mathlib.Core.List.{List, [], _∷_, _++_, map}
-use lib.ListN.{length, take, drop}
+use lib.ListN.{length, take, drop, replicate}
 use Rattle.text.specs.Digits.{number}
 use Rattle.wire.specs.Frame.{Message}
 use Rattle.kinds.specs.declared.Parsed.{Parsed}
 use Rattle.kinds.specs.declared.Parsed.the-variants.{Read, Syntax, Unknown}
 use Rattle.command.specs.Commands.{parsedOf}
-use Rattle.books.specs.Books.{freshBooks}
 use Rattle.books.specs.declared.Books.{Books}
 use Rattle.history.specs.Entries.{Entry}
 use Rattle.line.specs.Turns.{State, Turn, switchedOn}
-use Rattle.device.specs.Device.{lentTurn}
+use Rattle.store.specs.Store.{Store, freshStore}
+use Rattle.device.specs.Device.{Lent, lentTurn}
 
--- PROTOCOL 2.4: a byte that arrives, and the length of the buffer lent for it
+-- PROTOCOL 2.4: a byte that arrives, and what is lent for it
 pub record LentByte : Type 0 where
-  pub room : ℕ
+  pub lent : Lent
   pub byte : ℕ
 
 -- PROTOCOL 1.1: a recording, with 217 bytes lent each time
 abbrev pub alwaysLent : List ℕ → List LentByte
-alwaysLent = map (λ b. record { room = 217; byte = b })
+alwaysLent = map (λ b. record { lent = record { buffer = replicate 217 0 }; byte = b })
 
-abbrev pub turnBy : State Books → LentByte → Turn Books
-turnBy s a = lentTurn (a .room) s (a .byte)
+abbrev pub turnBy : State Store → LentByte → Turn Store
+turnBy s a = lentTurn (a .lent) s (a .byte)
 
 -- the turns of a device, byte for byte, and the device behind them
-abbrev pub turnsOf : State Books → List LentByte → List (Turn Books)
+abbrev pub turnsOf : State Store → List LentByte → List (Turn Store)
 turnsOf s [] = []
 turnsOf s (a ∷ more) = turnBy s a ∷ turnsOf (turnBy s a .state) more
 
-abbrev pub deviceAfter : State Books → List LentByte → State Books
+abbrev pub deviceAfter : State Store → List LentByte → State Store
 deviceAfter s [] = s
 deviceAfter s (a ∷ more) = deviceAfter (turnBy s a .state) more
 
 -- all that turns gave back, and the commands they carried out
-abbrev pub allGiven : List (Turn Books) → List ℕ
+abbrev pub allGiven : List (Turn Store) → List ℕ
 allGiven [] = []
 allGiven (t ∷ ts) = t .gives ++ allGiven ts
 
-abbrev pub allCarried : List (Turn Books) → List Message
+abbrev pub allCarried : List (Turn Store) → List Message
 allCarried [] = []
 allCarried (t ∷ ts) = t .carried ++ allCarried ts
 
@@ -50,30 +50,30 @@ dataIn answer = take (length answer - 17) (drop 4 answer)
 
 -- what a turn tells of the command it carried out: the turn's own reply number, and the data of the answer it gave back. Syntax (1) and unknown
 -- commands (2) are no commands
-abbrev pub withRead : Turn Books → Parsed → List Entry → List Entry
+abbrev pub withRead : Turn Store → Parsed → List Entry → List Entry
 withRead t (Read c) es = record { command = c; number = t .number; shown = dataIn (t .gives) } ∷ es
 withRead t Syntax es = es
 withRead t Unknown es = es
 
 -- a turn that carried out nothing tells nothing: a byte within a frame, NAK, a repeat, 7
-abbrev pub withTurn : Turn Books → List Message → List Entry → List Entry
+abbrev pub withTurn : Turn Store → List Message → List Entry → List Entry
 withTurn t [] es = es
 withTurn t (m ∷ ms) es = withTurn t ms (withRead t (parsedOf (m .code) (m .content)) es)
 
 -- the entries told from the turns alone, newest first
-abbrev pub toldBy : List Entry → List (Turn Books) → List Entry
+abbrev pub toldBy : List Entry → List (Turn Store) → List Entry
 toldBy es [] = es
 toldBy es (t ∷ ts) = toldBy (withTurn t (t .carried) es) ts
 
 -- of a fresh device: its entries, and the books it is left with
-abbrev pub freshDevice : State Books
-freshDevice = switchedOn freshBooks
+abbrev pub freshDevice : State Store
+freshDevice = switchedOn freshStore
 
 abbrev pub entriesOf : List LentByte → List Entry
 entriesOf arrived = toldBy [] (turnsOf freshDevice arrived)
 
 abbrev pub booksAfter : List LentByte → Books
-booksAfter arrived = deviceAfter freshDevice arrived .books
+booksAfter arrived = deviceAfter freshDevice arrived .store .books
 
 -- PROTOCOL 5.14: cash in an answer to 70, the 12 digits behind `P,`, read back as a number
 abbrev pub cashIn : List ℕ → ℕ

@@ -7,10 +7,10 @@ use lib.ListN.{length}
 use Rattle.wire.specs.Frame.{Message}
 use Rattle.reader.specs.Reading.{Place}
 use Rattle.books.specs.Sound.{sound}
-use Rattle.books.specs.declared.Books.{Books}
+use Rattle.store.specs.Store.{Store}
 use Rattle.kinds.specs.declared.Command.{Command}
 use Rattle.line.specs.Turns as line
-use Rattle.device.specs.Device.{lentTurn}
+use Rattle.device.specs.Device.{Lent, lentTurn}
 use Rattle.till.specs.Turns as till
 use Rattle.till.specs.Words.{numberOf, countOf}
 use Rattle.till.specs.declared.Word.the-variants.{Unfinished}
@@ -18,14 +18,14 @@ use Rattle.promises.specs.AtDevice.{FromDevice, tells, remembers, NewCom
 use Rattle.promises.specs.AtTill.{FromTill, replies, fails, noneWaits}
 use Rattle.promises.specs.Demand1.{Bench, Comes, atDevice, atTill, Outcome, fromDevice, fromTill, benchAfter}
 
-abbrev pub ofDevice : List ℕ → line.Turn Books → FromDevice
-ofDevice buffer t = tells (t .number) (t .gives) buffer (t .state)
+abbrev pub ofDevice : Lent → line.Turn Store → FromDevice
+ofDevice lent t = tells (t .number) (t .gives) lent (t .state)
 
 abbrev pub ofTill : List ℕ → till.Turn → FromTill
 ofTill buffer t = replies (numberOf (t .word)) (t .word) (countOf (t .word)) (t .puts) buffer (t .state)
 
 abbrev pub outcomeOf : Bench → Comes → Outcome
-outcomeOf s (atDevice buffer byte) = fromDevice (ofDevice buffer (lentTurn (length buffer) (s .device) byte))
+outcomeOf s (atDevice lent byte) = fromDevice (ofDevice lent (lentTurn lent (s .device) byte))
 outcomeOf s (atTill buffer h) = fromTill (ofTill buffer (till.hears (length buffer) (s .till) h))
 
 -- the replies of a history, and both ends behind it
@@ -40,11 +40,11 @@ behindAll s (c ∷ cs) = behindAll (benchAfter s (outcomeOf s c)) cs
 -- PROTOCOL 8.7: what no history of fresh ends comes to, where the reply is not the table's: books that are not sound refuse with 4 whatever they are asked,
 -- and stay; tries above five count as the fifth
 pub data Beyond (s : Bench) : Comes → Outcome → Type 0 where
-  unsound-books : {buffer : List ℕ} {byte : ℕ} (m : Message) (c : Command) → NewCommand (s .device) buffer byte m c → sound (s .device .books) ≡ false
-      → Beyond s (atDevice buffer byte)
+  unsound-books : {lent : Lent} {byte : ℕ} (m : Message) (c : Command) → NewCommand (s .device) lent byte m c → sound (s .device .store .books) ≡ false
+      → Beyond s (atDevice lent byte)
       (fromDevice
-      (tells 4 (answerWith m [] 0xA0 0x83 (s .device .books)) buffer
-      (remembers (s .device) byte m (answerWith m [] 0xA0 0x83 (s .device .books)) (s .device .books))))
+      (tells 4 (answerWith m [] 0xA0 0x83 (s .device .store .books)) lent
+      (remembers (s .device) byte m (answerWith m [] 0xA0 0x83 (s .device .store .books)) (s .device .store))))
   more-tries : {buffer : List ℕ} {h : till.Happening} (seq code : ℕ) (bytes : List ℕ) (tries : ℕ) (place : Place) → 210 ≤ length buffer
       → s .till .pending ≡ till.waits seq code bytes tries place → fails seq code place h ≡ true → 5 < tries
       → Beyond s (atTill buffer h) (fromTill (replies 9 (Unfinished tries) tries [] buffer (noneWaits (s .till))))

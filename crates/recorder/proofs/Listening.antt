@@ -10,17 +10,13 @@ use lib.Seq.{sets, length-sets, drop-drop}
 use Rattle.text.proofs.Laws.{sets-append, sets-out}
 use Rattle.wire.specs.Frame.{Message}
 use Rattle.wire.specs.declared.Kind.the-variants.{Command}
-use Rattle.reader.specs.Reading.{outside}
-use Rattle.reader.specs.Fields.{readerOf}
 use Rattle.reader.proofs.Holding.{Underway}
-use Rattle.books.specs.Books.{freshBooks}
 use Rattle.line.specs.Turns.{Session, session}
 use Rattle.line.specs.declared.Call.{Call}
 use Rattle.line.specs.declared.Call.the-variants.{Order}
-use Rattle.line.specs.declared.Previous.the-variants.{Nothing}
 use Rattle.store.specs.Store.{Store}
 use Rattle.carrying.specs.Carrying.{carry}
-use Rattle.device.specs.Device.{Lent, Machine, stateOf}
+use Rattle.device.specs.Device.{Lent, Machine, freshFields, stateOf}
 use Rattle.device.specs.Hearing.{PartHeard, hearing, afterPart, carriedBy}
 use Rattle.device.specs.declared.Device.{Device}
 use Rattle.device.proofs.Working.{take-min, take-all}
@@ -138,7 +134,7 @@ pub record Head (bytes out0 orders0 out orders : List ℕ) (m : Machine) (lent :
 abbrev pub begins : Device → Machine
 begins d = record { device = d; frame = replicate 256 0; last = replicate 217 0 }
 
-pub head-start : (bytes out orders : List ℕ) (d : Device) → d ≡ record { line = record { reader = readerOf outside; previous = Nothing }; books = freshBooks }
+pub head-start : (bytes out orders : List ℕ) (d : Device) → d ≡ freshFields
     → Head bytes out orders out orders (begins d) (record { buffer = replicate 217 0 }) 0 0 0
 head-start bytes out orders d ed =
     subst (λ z. Head bytes out orders out orders (begins z) (record { buffer = replicate 217 0 }) 0 0 0) (sym ed)
