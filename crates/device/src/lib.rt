@@ -80,13 +80,7 @@ pub fn hear(
     }
 }
 
-fn answer_call(
-    device: Device,
-    call: Call,
-    frame: &[u8],
-    last: &mut [u8],
-    buf: &mut [u8],
-) -> Given
+fn answer_call(device: Device, call: Call, frame: &[u8], last: &mut [u8], buf: &mut [u8]) -> Given
     requires { ⌜ AtLength (now frame) (now last) (now buf) ⌝ }
     ensures { λ r. ⌜ afterOf r (now (frame .entry)) (now (last .exit)) (now (buf .exit)) ≡ answering call (record { device = device; frame = now (frame .entry); last = now (last .entry) }) (record { buffer = now (buf .entry) }) ⌝ }
     ensures { λ r. ⌜ r .count ≤ 217 ⌝ }

@@ -1,8 +1,7 @@
 // As much as a receipt and a frame hold, and one more (PROTOCOL 8.1, 8.2).
-use books::Books;
+use device::Device;
 use device::Given;
 use libc::STDOUT_FILENO;
-use line::Line;
 use wire::Built;
 
 fn main() {
@@ -19,8 +18,7 @@ fn fill(sale: &[u8]) {
     let mut frame = [0u8; 256];
     let mut last = [0u8; 217];
     let mut given = send(
-        line::fresh(),
-        books::fresh(),
+        device::fresh(),
         &mut frame,
         &mut last,
         0x20,
@@ -29,9 +27,8 @@ fn fill(sale: &[u8]) {
     );
     let mut taken = 0u64;
     while taken < 1000 {
-        let l = given.line;
-        let b = given.books;
-        given = send(l, b, &mut frame, &mut last, seq(taken), 49, sale);
+        let device = given.device;
+        given = send(device, &mut frame, &mut last, seq(taken), 49, sale);
         let number = given.number;
         if number != 0 {
             tell(taken, number);
@@ -58,8 +55,7 @@ fn seq(n: u64) -> u8 {
 
 // A command, as the device hears it: its whole frame. The bytes given back are not looked at.
 fn send(
-    line: Line,
-    books: Books,
+    device: Device,
     frame: &mut [u8; 256],
     last: &mut [u8; 217],
     seq: u8,
@@ -71,16 +67,15 @@ fn send(
     let built = wire::build::build_command(&mut sent, seq, code, content);
     let n = size_of(built);
     if 210 < n {
-        return not_sent(line, books);
+        return not_sent(device);
     }
-    let heard = device::hear(line, books, frame, last, &mut buf, &sent[0..n]);
+    let heard = device::hear(device, frame, last, &mut buf, &sent[0..n]);
     heard.given
 }
 
-fn not_sent(line: Line, books: Books) -> Given {
+fn not_sent(device: Device) -> Given {
     Given {
-        line,
-        books,
+        device,
         number: 8,
         count: 0,
     }

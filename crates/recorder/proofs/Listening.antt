@@ -63,7 +63,7 @@ module _ (call : Call) (frame l : List ℕ) (at : ℕ) where
 
     is-listed : head ++ part ≡ listing (carriedBy call frame)
     is-listed =
-        ap (λ z. head ++ z) is-part ∙ ap (λ z. s ∷ c ∷ (z % 256) ∷ take k (drop 3 frame)) size-is 
+        ap (λ z. head ++ z) is-part ∙ ap (λ z. s ∷ c ∷ (z % 256) ∷ take k (drop 3 frame)) size-is
         ∙ sym (append-nil (s ∷ c ∷ (length (take k (drop 3 frame)) % 256) ∷ take k (drop 3 frame))) ∙ sym (ap (λ z. listing (carriedBy z frame)) e)
 
     pub list-order : (b ≡ min (at + length (listing (carriedBy call frame))) (length l)) × (l2 ≡ sets l at (listing (carriedBy call frame)))

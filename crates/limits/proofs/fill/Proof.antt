@@ -1,3 +1,4 @@
+-- The loop: nothing is needed of it but that it ends.
 use Prim.Native.Nat.{_≤_, _-_}
 use borrow.Author.Needs.{needs}
 use Rattle.limits.proofs.fill.Statement.{statement}
@@ -11,9 +12,6 @@ abbrev μ-loop : tie.MeasureT-loop
 
 fresh-requires : tie.Need-fresh-requires Inv-loop μ-loop
 fresh-requires c κs = search needs
-
-fresh-requires-2 : tie.Need-fresh-requires-2 Inv-loop μ-loop
-fresh-requires-2 c κs = search needs
 
 slice-aggregate-send : tie.Need-slice-aggregate-send Inv-loop μ-loop
 slice-aggregate-send c = search needs
@@ -55,7 +53,6 @@ fill-spec =
     Inv-loop
     μ-loop
     fresh-requires
-    fresh-requires-2
     slice-aggregate-send
     send-requires
     loop-holds
