@@ -1,4 +1,6 @@
 // Reading a frame, one byte at a time (PROTOCOL 1.7 to 1.9).
+pub mod stretches;
+
 use wire::Kind;
 use wire::suit;
 ghost use mathlib.Core.Path.{_≡_};
@@ -29,6 +31,14 @@ pub enum Heard {
 pub struct Taken {
     pub reader: Reader,
     pub heard: Heard,
+}
+
+// What a stretch of bytes brought, and how many they were: those of a lent part up to and including the first that brings something, or
+// all of them.
+pub struct Stretch {
+    pub reader: Reader,
+    pub heard: Heard,
+    pub taken: usize,
 }
 
 // What a whole run of bytes brought: where reading stands behind it, the broken frames and the whole ones.

@@ -99,7 +99,8 @@ fn enclose(buf: &mut [u8], seq: u8, code: u8, n: usize) -> usize
     n + 10
 }
 
-fn sum_of(part: &[u8]) -> u16
+// The sum that BCC writes, of the bytes from LEN to 05h.
+pub fn sum_of(part: &[u8]) -> u16
     ensures { λ r. ⌜ r ≡ total (now (part .entry)) % 65536 ⌝ }
 {
     let mut sum: u16 = 0;
