@@ -50,8 +50,8 @@ pub fn listen(line: Line, frame: &mut [u8; 256], bytes: &[u8]) -> Listened
     ensures { λ r. ⌜ now (frame .exit) ≡ frameBehind line (now (frame .entry)) (now (bytes .entry)) ⌝ }
 {
     let previous = line.previous;
-    let before = line.reader;
-    let stretch = stretches::take_stretch(before, frame, bytes);
+    let reader = line.reader;
+    let stretch = stretches::take_stretch(reader, frame, bytes);
     let next = stretch.reader;
     let heard = stretch.heard;
     asks(next, previous, heard, stretch.taken)

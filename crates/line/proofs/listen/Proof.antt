@@ -12,7 +12,7 @@ asks-requires c κs = search needs
 
 returns : tie.Need-returns
 returns c =
-    let a = c .before .before .before .before .args in
+    let a = c .before .before .before .before .before .before .args in
     let stretch = c .before .before .take-stretch in
     listens (a .line) (now (a .frame)) (now (a .bytes)) (stretch .result) _ (stretch .ensures) (c .asks .result) (c .asks .ensures)
 
