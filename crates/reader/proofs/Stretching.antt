@@ -6,8 +6,9 @@ use Prim.Native.Nat.{ℕ, suc, _+_, _-_, _%_, _≤_, _<_}
 use native.Mathlib.Numerals.{add-one}
 use native.Mathlib.Omega.{arith}
 use lib.ListN.{length, getD, take, drop, length-append, length-drop, drop-of-length-le, take-append-drop}
-use lib.Seq.{drop-cons, take-add, take-at, drop-drop, length-take-le, sets}
-use borrow.Author.Tests.{not-true, not-false}
+use lib.Seq.{drop-cons, take-add, take-all, take-at, drop-drop, length-take-le, sets}
+use borrow.Author.Tests.{not-true, not-false, ne-eqb, eqb-false}
+use lib.Dec.{eqb}
 use Rattle.text.proofs.Laws.{sets-over}
 use Rattle.wire.specs.Bytes.{mayStand, every}
 use Rattle.wire.specs.Frame.{Message, total, bcc, counted, frame}
@@ -17,13 +18,13 @@ use Rattle.wire.specs.declared.Sort.the-variants.{Data}
 use Rattle.wire.proofs.Building.{bcc-mod}
 use Rattle.reader.specs.Reading.{Place, outside, inside, Read, Event, nothing, brokenFrame, heard, startsAnew, read, Run, run}
 use Rattle.reader.specs.Fields.{placeOf, readerOf, keptIn, heardOf, isSilent, takenOf}
-use Rattle.reader.specs.Private.{Heads, Leads, closing, leading}
+use Rattle.reader.specs.Private.{Heads, Leads, beforeStart, closing, leading}
 use Rattle.reader.specs.Stretches.{Stretched, further, stretched}
 use Rattle.reader.specs.declared.Heard.the-variants.{Nothing, Whole}
 use Rattle.reader.specs.declared.Reader.{Reader}
 use Rattle.reader.specs.declared.Stretch.{Stretch}
 use Rattle.reader.specs.declared.Taken.{Taken}
-use Rattle.reader.proofs.Steps.{read-start, place-out, Ways, starts-anew, is-skipped, breaks, goes-on, ends, ways}
+use Rattle.reader.proofs.Steps.{read-start, read-other, place-out, Ways, starts-anew, is-skipped, breaks, goes-on, ends, ways}
 use Rattle.reader.proofs.Running.{bytesOf, place-back}
 use Rattle.reader.proofs.Holding.{Underway, underway-few, underway-read}
 use Rattle.reader.proofs.Walking.{quiet, run-first}
@@ -196,7 +197,7 @@ module _ (k : Kind) (array : List ℕ) (size : length array ≡ 256) (ys : List 
       ∙ both-further 1 (length xs) (suc (length xs)) one (stretched k (readerOf q) (keptIn array q) ys)
 
 -- the stretch of a whole command at the front
-module _ (n : ℕ) (bytes array : List ℕ) (r : Reader) (lead : Leads n bytes) (out : r .inside ≡ false) (size : length array ≡ 256) where
+module _ (n : ℕ) (bytes array : List ℕ) (lead : Leads n bytes) (size : length array ≡ 256) where
   abbrev m : Message
   m = leading n bytes
 
@@ -237,16 +238,61 @@ module _ (n : ℕ) (bytes array : List ℕ) (r : Reader) (lead : Leads n bytes) 
       ap (λ p. heardAs Command (read Command p 0x03) (keptIn array last) behind) (place-back array last (omega (arith, length-between, lead .small)))
       ∙ ap (λ z. heardAs Command z (keptIn array last) behind) (read-last Command m h)
 
-  pub at-once : (array' : List ℕ) (reader : Reader) → array' ≡ sets array 0 (take (n + 9 - 1) (drop 1 bytes)) → reader ≡ readerOf outside
-      → record { stretch = record { reader = reader; heard = Whole (getD bytes 2 0) (getD bytes 3 0) n; taken = n + 10 }; array = array' } ≡ stretched Command r array bytes
-  at-once array' reader ea er =
+  at-once : stretched Command (readerOf outside) array bytes
+      ≡ record { stretch = record { reader = readerOf outside; heard = Whole (getD bytes 2 0) (getD bytes 3 0) n; taken = n + 10 }; array = sets array 0 (take (n + 9 - 1) (drop 1 bytes)) }
+  at-once =
       let taken : suc (length between) + 1 ≡ n + 10 = omega (arith, length-between) in
       let part : between ≡ take (n + 9 - 1) (drop 1 bytes) =
       sym (ap (λ z. take (n + 9 - 1) (drop 1 z)) split ∙ take-at between (0x03 ∷ behind) (n + 9 - 1) (omega (arith, length-between))) in
-      let kept : sets array 0 between ≡ array' = ap (sets array 0) part ∙ sym ea in
-      sym (
-      ap (stretched Command r array) split
-      ∙ ap (λ p. heardAs Command (read Command p 0x01) array (between ++ 0x03 ∷ behind)) (place-out r array out)
+      ap (stretched Command (readerOf outside) array) split
       ∙ along Command array size (0x03 ∷ behind) (0x01 ∷ between) outside last tt walk
       ∙ ap (further (suc (length between))) ended
-      ∙ (λ i. record { stretch = record { reader = sym er i; heard = Whole (m .seq) (m .code) (length-content i); taken = taken i }; array = kept i }))
+      ∙ (λ i. record { stretch = record { reader = readerOf outside; heard = Whole (m .seq) (m .code) (length-content i); taken = taken i }; array = sets array 0 (part i) })
+
+-- bytes before the first 01h are skipped
+module _ (k : Kind) (array : List ℕ) where
+  skip : (bytes : List ℕ) → stretched k (readerOf outside) array bytes ≡ further (beforeStart bytes) (stretched k (readerOf outside) array (drop (beforeStart bytes) bytes))
+  skip [] = refl
+  skip (b ∷ bs) = go (eqb b 0x01) refl (skip bs)
+    where
+      go : (start : Bool) → eqb b 0x01 ≡ start
+          → stretched k (readerOf outside) array bs ≡ further (beforeStart bs) (stretched k (readerOf outside) array (drop (beforeStart bs) bs))
+          → stretched k (readerOf outside) array (b ∷ bs)
+          ≡ further (cond start 0 (1 + beforeStart bs)) (stretched k (readerOf outside) array (drop (cond start 0 (1 + beforeStart bs)) (b ∷ bs)))
+      go true e rest = none-further (stretched k (readerOf outside) array (b ∷ bs))
+      go false e rest =
+          let one : 1 + beforeStart bs ≡ suc (beforeStart bs) = omega arith in
+          ap (λ z. heardAs k z array bs) (read-other k outside b (eqb-false b 0x01 e))
+          ∙ ap (further 1) rest
+          ∙ both-further 1 (beforeStart bs) (1 + beforeStart bs) refl (stretched k (readerOf outside) array (drop (beforeStart bs) bs))
+          ∙ ap (λ j. further (1 + beforeStart bs) (stretched k (readerOf outside) array (drop j (b ∷ bs)))) (sym one)
+
+  -- whatever the other fields of a reader that is outside
+  outer : (r : Reader) (bytes : List ℕ) → r .inside ≡ false → 0 < length bytes → stretched k r array bytes ≡ stretched k (readerOf outside) array bytes
+  outer r [] out some = absurd (omega arith)
+  outer r (b ∷ bs) out some = ap (λ p. heardAs k (read k p b) array bs) (place-out r array out)
+
+-- a turn of the search for it
+module _ (bytes : List ℕ) (i : ℕ) (more : i < length bytes) where
+  pub before-here : getD bytes i 0 ≡ 0x01 → beforeStart (drop i bytes) ≡ 0
+  before-here e = rw (drop-cons bytes i 0 more, e)
+
+  pub before-further : (getD bytes i 0 ≡ 0x01 → ⊥) → beforeStart (drop i bytes) ≡ 1 + beforeStart (drop (i + 1) bytes)
+  before-further e = rw (add-one, drop-cons bytes i 0 more, ne-eqb (getD bytes i 0) 0x01 e)
+
+pub to-end : (l : List ℕ) (i : ℕ) → take (length l - i) (drop i l) ≡ drop i l
+to-end l i = take-all (length l - i) (drop i l) (omega (arith, length-drop i l))
+
+-- the stretch of a whole command that comes next
+pub next-at-once : (n start : ℕ) (bytes array rest : List ℕ) (r : Reader) → r .inside ≡ false → start ≡ beforeStart bytes → rest ≡ drop start bytes → Leads n rest
+    → length array ≡ 256 → (array' : List ℕ) (reader : Reader) → array' ≡ sets array 0 (take (n + 9 - 1) (drop 1 rest)) → reader ≡ readerOf outside
+    → record { stretch = record { reader = reader; heard = Whole (getD rest 2 0) (getD rest 3 0) n; taken = start + n + 10 }; array = array' } ≡ stretched Command r array bytes
+next-at-once n start bytes array rest r out es er lead size array' reader ea ef =
+    let some : 0 < length bytes = omega (arith, lead .room, ap length er, length-drop start bytes) in
+    let sums : start + (n + 10) ≡ start + n + 10 = omega arith in
+    sym (
+    outer Command array r bytes out some ∙ skip Command array bytes
+    ∙ ap (λ j. further j (stretched Command (readerOf outside) array (drop j bytes))) (sym es)
+    ∙ ap (λ z. further start (stretched Command (readerOf outside) array z)) (sym er)
+    ∙ ap (further start) (at-once n rest array lead size)
+    ∙ (λ i. record { stretch = record { reader = sym ef i; heard = Whole (getD rest 2 0) (getD rest 3 0) n; taken = sums i }; array = sym ea i }))

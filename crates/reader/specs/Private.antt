@@ -1,7 +1,8 @@
 -- What the private functions of reading ask of each other. No promise to a caller rests on it.
 use Prim.Native.Nat.{ℕ, _+_, _≤_, _<_}
 use mathlib.Core.Path.{_≡_}
-use mathlib.Core.Bool.{true}
+use mathlib.Core.Bool.{true, cond}
+use lib.Dec.{eqb}
 use mathlib.Core.List.{List, [], _∷_, _++_}
 use lib.ListN.{length, getD, take, drop}
 use Rattle.wire.specs.Bytes.{mayStand}
@@ -30,6 +31,11 @@ abbrev pub wholeOf : Heard → ℕ
 wholeOf Nothing = 0
 wholeOf Broken = 0
 wholeOf (Whole seq code n) = 1
+
+-- how many bytes stand before the first 01h
+abbrev pub beforeStart : List ℕ → ℕ
+beforeStart [] = 0
+beforeStart (b ∷ bs) = cond (eqb b 0x01) 0 (1 + beforeStart bs)
 
 -- 01h, the LEN of n data bytes, SEQ and CMD stand at the front
 pub record Heads (n : ℕ) (bytes : List ℕ) : Type 0 where

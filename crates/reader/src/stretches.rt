@@ -8,34 +8,39 @@ use wire::build;
 use wire::suit;
 ghost use mathlib.Core.Path.{_≡_};
 ghost use mathlib.Core.Bool.{true};
-ghost use Prim.Native.Nat.{_+_, _≤_};
-ghost use lib.ListN.{length, getD, take};
+ghost use Prim.Native.Nat.{_≤_};
+ghost use lib.ListN.{length};
+ghost use lib.Seq.{sets};
 ghost use Rattle.wire.specs.declared.Kind.the-variants.{Command};
 ghost use Rattle.reader.specs.Stretches.{stretched};
 ghost use Rattle.reader.specs.Fields.{isSilent};
-ghost use Rattle.reader.specs.Private.{Heads, Leads, closing};
+ghost use Rattle.reader.specs.Private.{Heads, Leads, beforeStart, closing};
 
-// A stretch of a device's bytes. A whole command at the front of the part is taken at once, anything else byte by byte.
+// A stretch of a device's bytes. Outside a frame, a whole command that comes next is taken at once; anything else goes byte by byte.
 pub fn take_stretch(reader: Reader, array: &mut [u8; 256], bytes: &[u8]) -> Stretch
     ensures { λ r. ⌜ record { stretch = r; array = now (array .exit) } ≡ stretched Command reader (now (array .entry)) (now (bytes .entry)) ⌝ }
 {
     if reader.inside {
         return take_each(Kind::Command, reader, array, bytes);
     }
-    let n = announced(bytes);
-    if !leads(n, bytes) {
+    let start = before_start(bytes);
+    let rest = &bytes[start..bytes.len()];
+    let n = announced(rest);
+    if !leads(n, rest) {
         return take_each(Kind::Command, reader, array, bytes);
     }
+    let seq = rest[2];
+    let code = rest[3];
     let end = n + 9;
-    text::put_bytes(array, 0, &bytes[1..end]);
+    keep(array, &rest[1..end]);
     Stretch {
         reader: crate::fresh(),
         heard: Heard::Whole {
-            seq: bytes[2],
-            code: bytes[3],
+            seq,
+            code,
             count: n,
         },
-        taken: n + 10,
+        taken: start + n + 10,
     }
 }
 
@@ -80,21 +85,40 @@ fn is_silent(heard: Heard) -> bool
     }
 }
 
-// How many data bytes the second byte announces.
-fn announced(bytes: &[u8]) -> usize {
+// How many bytes stand before the first 01h.
+fn before_start(bytes: &[u8]) -> usize
+    ensures { λ r. ⌜ r ≡ beforeStart (now (bytes .entry)) ⌝ }
+    ensures { λ r. ⌜ r ≤ length (now (bytes .entry)) ⌝ }
+{
+    let mut i = 0;
+    while i < bytes.len() {
+        if bytes[i] == 0x01 {
+            return i;
+        }
+        i += 1;
+    }
+    i
+}
+
+// How many data bytes the second byte announces; 0 where it can't be LEN.
+fn announced(bytes: &[u8]) -> usize
+    ensures { λ r. ⌜ r ≤ 200 ⌝ }
+{
     if bytes.len() < 2 {
         return 0;
     }
-    suit::data_count(Kind::Command, bytes[1])
+    let n = suit::data_count(Kind::Command, bytes[1]);
+    if 200 < n {
+        return 0;
+    }
+    n
 }
 
 // Whether the whole frame of a command with n data bytes stands at the front.
 fn leads(n: usize, bytes: &[u8]) -> bool
+    requires { ⌜ n ≤ 200 ⌝ }
     ensures { λ r. ⌜ (r ≡ true → Leads n (now (bytes .entry))) ⌝ }
 {
-    if 200 < n {
-        return false;
-    }
     if bytes.len() < n + 10 {
         return false;
     }
@@ -151,4 +175,16 @@ fn closes(sum: u16, six: &[u8]) -> bool
         return false;
     }
     six[5] == 0x03
+}
+
+// The bytes since 01h at the front of the array.
+fn keep(array: &mut [u8], bytes: &[u8])
+    requires { ⌜ length (now bytes) ≤ length (now array) ⌝ }
+    ensures { λ r. ⌜ now (array .exit) ≡ sets (now (array .entry)) 0 (now (bytes .entry)) ⌝ }
+{
+    let mut i = 0;
+    while i < bytes.len() {
+        array[i] = bytes[i];
+        i += 1;
+    }
 }

@@ -7,20 +7,17 @@ use borrow.Author.Needs.{needs}
 use Rattle.reader.proofs.stretches.leads.Statement.{statement}
 use Rattle.reader.proofs.stretches.leads.Tie as tie
 
+add-if1 : tie.Need-add-if1
+add-if1 c = search needs
+
 returns : tie.Need-returns
 returns c = λ e. absurd (false≢true e)
 
-add-if2 : tie.Need-add-if2
-add-if2 c = search needs
+heads-requires : tie.Need-heads-requires
+heads-requires c κs = c .before .before .pre
 
 returns-2 : tie.Need-returns-2
 returns-2 c = λ e. absurd (false≢true e)
-
-heads-requires : tie.Need-heads-requires
-heads-requires c κs = c .before .if1 .left
-
-returns-3 : tie.Need-returns-3
-returns-3 c = λ e. absurd (false≢true e)
 
 add-five : tie.Need-add-five
 add-five c = search needs
@@ -37,8 +34,8 @@ part-all-may-stand-end c = search needs
 all-may-stand-requires : tie.Need-all-may-stand-requires
 all-may-stand-requires c κs = search needs
 
-returns-4 : tie.Need-returns-4
-returns-4 c = λ e. absurd (false≢true e)
+returns-3 : tie.Need-returns-3
+returns-3 c = λ e. absurd (false≢true e)
 
 add-sum-of : tie.Need-add-sum-of
 add-sum-of c = search needs
@@ -70,33 +67,32 @@ part-closes-end c = search needs
 closes-requires : tie.Need-closes-requires
 closes-requires c κs = search needs
 
-returns-5 : tie.Need-returns-5
-returns-5 c e =
+returns-4 : tie.Need-returns-4
+returns-4 c e =
     let sum = c .before .before in
     let content = sum .before .before in
     let head = content .before .before .before in
     let room = head .before .before in
-    let a = room .before .before .before .args in
-    leads-whole (a .n) (sum .sum-of .result) (now (a .bytes)) (room .before .if1 .left) (room .if2 .left)
-    (head .before .heads .ensures (not-false _ (head .if3 .left)))
-    (sym (content .before .all-may-stand .ensures) ∙ not-false _ (content .if4 .left))
+    let a = room .before .before .args in
+    leads-whole (a .n) (sum .sum-of .result) (now (a .bytes)) (room .before .before .pre) (room .if1 .left)
+    (head .before .heads .ensures (not-false _ (head .if2 .left)))
+    (sym (content .before .all-may-stand .ensures) ∙ not-false _ (content .if3 .left))
     (sum .sum-of .ensures) (c .closes .ensures e)
 
 pub leads-spec : {M : Type 1} → statement M
 leads-spec =
     tie.close
     (tie.spec
+    add-if1
     returns
-    add-if2
-    returns-2
     heads-requires
-    returns-3
+    returns-2
     add-five
     sub-all-may-stand
     part-all-may-stand-start
     part-all-may-stand-end
     all-may-stand-requires
-    returns-4
+    returns-3
     add-sum-of
     sub-sum-of
     part-sum-of-start
@@ -107,4 +103,4 @@ leads-spec =
     part-closes-start
     part-closes-end
     closes-requires
-    returns-5)
+    returns-4)
