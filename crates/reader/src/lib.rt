@@ -2,6 +2,8 @@
 pub mod stretches;
 
 use wire::Kind;
+use wire::LEAST_LEN;
+use wire::MOST_DATA;
 use wire::suit;
 ghost use mathlib.Core.Path.{_≡_};
 ghost use mathlib.Core.Bool.{cond, _&&_};
@@ -48,6 +50,7 @@ pub struct Told {
     pub whole: usize,
 }
 
+// A reader that stands outside a frame.
 pub fn fresh() -> Reader
     ensures { λ r. ⌜ r ≡ readerOf outside ⌝ }
 {
@@ -58,6 +61,7 @@ pub fn fresh() -> Reader
     }
 }
 
+// One byte: what it brings, and where reading stands behind it.
 pub fn take_byte(kind: Kind, reader: Reader, array: &mut [u8; 256], b: u8) -> Taken
     ensures { λ r. ⌜ r ≡ takenOf (read kind (placeOf reader (now (array .entry))) b) ⌝ }
     ensures { λ r. ⌜ now (array .exit) ≡ keptIn (now (array .entry)) (read kind (placeOf reader (now (array .entry))) b .place) ⌝ }
@@ -154,10 +158,9 @@ fn whole_in(heard: Heard) -> usize
 fn started(within: bool, count: u8) -> Taken
     ensures { λ r. ⌜ r ≡ takenOf (record { place = inside 0 []; event = cond (within && ltb 0 count) brokenFrame nothing }) ⌝ }
 {
-    let behind = 0;
     let reader = Reader {
         inside: true,
-        count: behind,
+        count: 0,
         sum: 0,
     };
     if !within {
@@ -192,12 +195,12 @@ fn take_len(kind: Kind, array: &mut [u8; 256], b: u8) -> Taken
     ensures { λ r. ⌜ r ≡ takenOf (readOther kind (inside 0 []) b) ⌝ }
     ensures { λ r. ⌜ now (array .exit) ≡ keptIn (now (array .entry)) (readOther kind (inside 0 []) b .place) ⌝ }
 {
-    let least = 0x24 + suit::behind_data(kind);
+    let least = LEAST_LEN + suit::behind_data(kind);
     let len = b as usize;
     if len < least {
         return broken();
     }
-    if least + 200 < len {
+    if least + MOST_DATA < len {
         return broken();
     }
     array[0] = b;

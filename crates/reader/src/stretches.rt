@@ -3,6 +3,8 @@ use crate::Heard;
 use crate::Reader;
 use crate::Stretch;
 use wire::Kind;
+use wire::LEAST_LEN;
+use wire::MOST_DATA;
 use wire::Sort;
 use wire::build;
 use wire::suit;
@@ -108,7 +110,7 @@ fn announced(bytes: &[u8]) -> usize
         return 0;
     }
     let n = suit::data_count(Kind::Command, bytes[1]);
-    if 200 < n {
+    if MOST_DATA < n {
         return 0;
     }
     n
@@ -144,7 +146,7 @@ fn heads(n: usize, bytes: &[u8]) -> bool
     if bytes[0] != 0x01 {
         return false;
     }
-    if bytes[1] as usize != n + 0x24 {
+    if bytes[1] as usize != n + LEAST_LEN {
         return false;
     }
     if !suit::may_stand(Sort::Mark, bytes[2]) {
