@@ -1,3 +1,4 @@
+-- The loop's invariant: what i bytes brought is counted, and what the rest brings from here makes the whole.
 use Prim.Native.Nat.{_-_}
 use native.Mathlib.Omega.{arith}
 use borrow.Author.Needs.{needs}
