@@ -1,4 +1,5 @@
 // The line: what bytes ask of the device. A quiet byte moves a few scalars; the frame before and the books are not touched.
+use reader::FRAME_ROOM;
 use reader::Heard;
 use reader::Reader;
 use reader::stretches;
@@ -35,6 +36,7 @@ pub struct Listened {
     pub taken: usize,
 }
 
+// A line on which nothing has come.
 pub fn fresh() -> Line
     ensures { λ r. ⌜ r ≡ record { reader = readerOf outside; previous = Nothing } ⌝ }
 {
@@ -45,7 +47,8 @@ pub fn fresh() -> Line
     }
 }
 
-pub fn listen(line: Line, frame: &mut [u8; 256], bytes: &[u8]) -> Listened
+// Listening to a lent part: what the first byte that asks for something asks, and how many bytes were taken.
+pub fn listen(line: Line, frame: &mut [u8; FRAME_ROOM], bytes: &[u8]) -> Listened
     ensures { λ r. ⌜ r ≡ listenedTo line (now (frame .entry)) (now (bytes .entry)) ⌝ }
     ensures { λ r. ⌜ now (frame .exit) ≡ frameBehind line (now (frame .entry)) (now (bytes .entry)) ⌝ }
 {

@@ -16,6 +16,9 @@ ghost use Rattle.reader.specs.Reading.{read, readOther, run, outside, in
 ghost use Rattle.reader.specs.Private.{Behind, brokenOf, wholeOf};
 ghost use Rattle.reader.specs.Fields.{placeOf, readerOf, keptIn, takenOf, toldOf};
 
+// How many bytes are lent for those of a frame since 01h.
+pub const FRAME_ROOM: usize = 256;
+
 // Where reading stands. The bytes since 01h are the first `count` of a lent array, so that a byte moves three scalars only.
 pub struct Reader {
     pub inside: bool,
@@ -62,7 +65,7 @@ pub fn fresh() -> Reader
 }
 
 // One byte: what it brings, and where reading stands behind it.
-pub fn take_byte(kind: Kind, reader: Reader, array: &mut [u8; 256], b: u8) -> Taken
+pub fn take_byte(kind: Kind, reader: Reader, array: &mut [u8; FRAME_ROOM], b: u8) -> Taken
     ensures { λ r. ⌜ r ≡ takenOf (read kind (placeOf reader (now (array .entry))) b) ⌝ }
     ensures { λ r. ⌜ now (array .exit) ≡ keptIn (now (array .entry)) (read kind (placeOf reader (now (array .entry))) b .place) ⌝ }
 {
@@ -105,7 +108,7 @@ fn first(bytes: &[u8]) -> u8
 pub fn listen(kind: Kind, bytes: &[u8]) -> Told
     ensures { λ r. ⌜ r ≡ toldOf (run kind outside (now (bytes .entry))) ⌝ }
 {
-    let mut array = [0u8; 256];
+    let mut array = [0u8; FRAME_ROOM];
     let mut reader = fresh();
     let mut broken: usize = 0;
     let mut whole: usize = 0;
@@ -191,7 +194,7 @@ fn broken() -> Taken
 }
 
 // The byte directly behind 01h.
-fn take_len(kind: Kind, array: &mut [u8; 256], b: u8) -> Taken
+fn take_len(kind: Kind, array: &mut [u8; FRAME_ROOM], b: u8) -> Taken
     ensures { λ r. ⌜ r ≡ takenOf (readOther kind (inside 0 []) b) ⌝ }
     ensures { λ r. ⌜ now (array .exit) ≡ keptIn (now (array .entry)) (readOther kind (inside 0 []) b .place) ⌝ }
 {
@@ -215,7 +218,14 @@ fn take_len(kind: Kind, array: &mut [u8; 256], b: u8) -> Taken
 }
 
 // A byte behind LEN.
-fn take_behind(kind: Kind, n: usize, count: u8, sum: u16, array: &mut [u8; 256], b: u8) -> Taken
+fn take_behind(
+    kind: Kind,
+    n: usize,
+    count: u8,
+    sum: u16,
+    array: &mut [u8; FRAME_ROOM],
+    b: u8,
+) -> Taken
     requires { ⌜ Behind kind n count (now array) ⌝ }
     ensures { λ r. ⌜ r ≡ takenOf (readOther kind (inside sum (take count (now (array .entry)))) b) ⌝ }
     ensures { λ r. ⌜ now (array .exit) ≡ keptIn (now (array .entry)) (readOther kind (inside sum (take count (now (array .entry)))) b .place) ⌝ }
@@ -229,7 +239,14 @@ fn take_behind(kind: Kind, n: usize, count: u8, sum: u16, array: &mut [u8; 256],
 }
 
 // A byte up to 05h: it is added.
-fn take_front(kind: Kind, n: usize, count: u8, sum: u16, array: &mut [u8; 256], b: u8) -> Taken
+fn take_front(
+    kind: Kind,
+    n: usize,
+    count: u8,
+    sum: u16,
+    array: &mut [u8; FRAME_ROOM],
+    b: u8,
+) -> Taken
     requires { ⌜ Behind kind n count (now array) ⌝ }
     requires { ⌜ count ≤ length (front kind n) ⌝ }
     ensures { λ r. ⌜ r ≡ takenOf (readOther kind (inside sum (take count (now (array .entry)))) b) ⌝ }
@@ -257,7 +274,7 @@ fn take_ending(
     edge: usize,
     count: u8,
     sum: u16,
-    array: &mut [u8; 256],
+    array: &mut [u8; FRAME_ROOM],
     b: u8,
 ) -> Taken
     requires { ⌜ Behind kind n count (now array) ⌝ }

@@ -1,4 +1,5 @@
 // A stretch of bytes at once (DECISIONS 54).
+use crate::FRAME_ROOM;
 use crate::Heard;
 use crate::Reader;
 use crate::Stretch;
@@ -19,7 +20,7 @@ ghost use Rattle.reader.specs.Fields.{isSilent};
 ghost use Rattle.reader.specs.Private.{Heads, Leads, beforeStart, closing};
 
 // A stretch of a device's bytes. Outside a frame, a whole command that comes next is taken at once; anything else goes byte by byte.
-pub fn take_stretch(reader: Reader, array: &mut [u8; 256], bytes: &[u8]) -> Stretch
+pub fn take_stretch(reader: Reader, array: &mut [u8; FRAME_ROOM], bytes: &[u8]) -> Stretch
     ensures { λ r. ⌜ record { stretch = r; array = now (array .exit) } ≡ stretched Command reader (now (array .entry)) (now (bytes .entry)) ⌝ }
 {
     if reader.inside {
@@ -47,7 +48,7 @@ pub fn take_stretch(reader: Reader, array: &mut [u8; 256], bytes: &[u8]) -> Stre
 }
 
 // Byte by byte.
-fn take_each(kind: Kind, reader: Reader, array: &mut [u8; 256], bytes: &[u8]) -> Stretch
+fn take_each(kind: Kind, reader: Reader, array: &mut [u8; FRAME_ROOM], bytes: &[u8]) -> Stretch
     ensures { λ r. ⌜ record { stretch = r; array = now (array .exit) } ≡ stretched kind reader (now (array .entry)) (now (bytes .entry)) ⌝ }
 {
     let mut at = reader;
