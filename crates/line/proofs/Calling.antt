@@ -1,5 +1,5 @@
--- Laws of what bytes ask for: the code's branches, and a turn of its loop.
-use mathlib.Core.Path.{_≡_, refl, sym, ap, _∙_}
+-- Laws of what bytes ask for: the code's branches, and listening as a stretch of reading.
+use mathlib.Core.Path.{_≡_, refl, sym, ap, _∙_, subst}
 use mathlib.Core.Bool.{Bool, true, false, cond, not, _&&_, false≢true}
 use mathlib.Core.List.{List, [], _∷_}
 use Prim.Native.Nat.{ℕ, suc, _+_, _≤_, _<_}
@@ -11,12 +11,12 @@ use lib.Seq.{drop-cons}
 use borrow.Author.Tests.{eq-eqb, ne-eqb}
 use Rattle.wire.specs.declared.Kind.the-variants.{Command}
 use Rattle.reader.specs.Reading.{read}
-use Rattle.reader.specs.Fields.{placeOf, takenOf}
+use Rattle.reader.specs.Fields.{placeOf, heardOf, isSilent}
+use Rattle.reader.specs.Stretches.{Stretched, further, stretched}
 use Rattle.reader.specs.declared.Heard.{Heard}
 use Rattle.reader.specs.declared.Heard.the-variants as heards
-use Rattle.reader.specs.declared.Reader.{Reader}
-use Rattle.reader.specs.declared.Taken.{Taken}
-use Rattle.line.specs.Calls.{callFor, isRepeat, isQuiet, isSilent, Called, calledOf}
+use Rattle.reader.specs.declared.Stretch.{Stretch}
+use Rattle.line.specs.Calls.{callFor, isRepeat, isQuiet, calledOf}
 use Rattle.line.specs.Listening.{frameAfter, listenedTo, frameBehind}
 use Rattle.line.specs.declared.Call.the-variants.{Quiet, Again, Order}
 use Rattle.line.specs.declared.Line.{Line}
@@ -50,101 +50,52 @@ quiet-silent p (heards.Whole s c n) = go (isRepeat p s c)
     go true = refl
     go false = refl
 
-is-true : (b : Bool) → not b ≡ false → b ≡ true
-is-true true e = refl
-is-true false e = absurd (false≢true (sym e))
+-- listening is a stretch of reading
+abbrev listenedOf : Line → Stretch → Listened
+listenedOf l s = record { line = record { reader = s .reader; previous = l .previous }; call = callFor (l .previous) (s .heard); taken = s .taken }
 
-is-false : (b : Bool) → not b ≡ true → b ≡ false
-is-false true e = absurd (false≢true e)
-is-false false e = refl
+as-stretch : (bytes : List ℕ) (l : Line) (frame : List ℕ)
+    → (listenedTo l frame bytes ≡ listenedOf l (stretched Command (l .reader) frame bytes .stretch)) × (frameBehind l frame bytes ≡ stretched Command (l .reader) frame bytes .array)
+as-stretch [] l frame = (refl, refl)
+as-stretch (b ∷ bs) l frame = go (isSilent h) (quiet-silent (l .previous) h) (as-stretch bs now kept)
+  where
+    h : Heard
+    h = heardOf (read Command (placeOf (l .reader) frame) b .event)
 
--- what is listened to behind i bytes that asked for nothing
-abbrev further : ℕ → Listened → Listened
-further i x = record { line = x .line; call = x .call; taken = i + x .taken }
+    now : Line
+    now = calledOf l frame b .line
 
-abbrev lineOn : Line → Reader → Line
-lineOn l reader = record { reader = reader; previous = l .previous }
+    kept : List ℕ
+    kept = frameAfter l frame b
 
--- what is known at the loop's head
-pub record Head (l : Line) (frame₀ bytes frame : List ℕ) (reader : Reader) (i : ℕ) : Type 0 where
-  pub within : i ≤ length bytes
-  pub listens : listenedTo l frame₀ bytes ≡ further i (listenedTo (lineOn l reader) frame (drop i bytes))
-  pub frames : frameBehind l frame₀ bytes ≡ frameBehind (lineOn l reader) frame (drop i bytes)
+    later : Listened
+    later = listenedTo now kept bs
 
-none-further : (x : Listened) → x ≡ further 0 x
-none-further x = let e : 0 + x .taken ≡ x .taken = omega arith in ap (λ n. record { line = x .line; call = x .call; taken = n }) (sym e)
+    rest : Stretched
+    rest = stretched Command (now .reader) kept bs
 
-pub head-start : (l : Line) (frame bytes : List ℕ) → Head l frame bytes frame (l .reader) 0
-head-start l frame bytes = record { within = omega arith; listens = none-further (listenedTo l frame bytes); frames = refl }
+    Same : Bool → Bool → Type 0
+    Same quiet silent =
+        (cond {A = Listened} quiet (record { line = later .line; call = later .call; taken = later .taken + 1 }) (record { line = now; call = callFor (l .previous) h; taken = 1 })
+        ≡ listenedOf l (cond {A = Stretched} silent (further 1 rest) (record { stretch = record { reader = now .reader; heard = h; taken = 1 }; array = kept }) .stretch))
+        × (cond quiet (frameBehind now kept bs) kept ≡ cond {A = Stretched} silent (further 1 rest) (record { stretch = record { reader = now .reader; heard = h; taken = 1 }; array = kept }) .array)
 
-module _ (l : Line) (frame₀ bytes frame : List ℕ) (reader : Reader) (i : ℕ) (h : Head l frame₀ bytes frame reader i) where
-  abbrev here : Line
-  here = lineOn l reader
+    both : (s : Bool) → (later ≡ listenedOf now (rest .stretch)) × (frameBehind now kept bs ≡ rest .array) → Same s s
+    both true (e, f) =
+        let n : rest .stretch .taken + 1 ≡ 1 + rest .stretch .taken = omega arith in
+        (ap (λ (z : Listened). record { line = z .line; call = z .call; taken = z .taken + 1 }) e ∙ ap (λ k. record { line = listenedOf now (rest .stretch) .line; call = listenedOf now (rest .stretch) .call; taken = k }) n, f)
+    both false e = (refl, refl)
 
-  abbrev either : Bool → (called : Called) → List ℕ → List ℕ → Listened
-  either quiet called frame' rest =
-      let later = listenedTo (called .line) frame' rest in
-      cond quiet (record { line = later .line; call = later .call; taken = later .taken + 1 }) (record { line = called .line; call = called .call; taken = 1 })
+    go : (s : Bool) → isQuiet (callFor (l .previous) h) ≡ s → (later ≡ listenedOf now (rest .stretch)) × (frameBehind now kept bs ≡ rest .array)
+        → Same (isQuiet (callFor (l .previous) h)) s
+    go s q e = subst (λ z. Same z s) (sym q) (both s e)
 
-  abbrev framed : Bool → (called : Called) → List ℕ → List ℕ → List ℕ
-  framed quiet called frame' rest = cond quiet (frameBehind (called .line) frame' rest) frame'
-
-  module _ (more : i < length bytes) (t : Taken) (frame' : List ℕ) (et : t ≡ takenOf (read Command (placeOf reader frame) (getD bytes i 0)))
-      (ef : frame' ≡ frameAfter here frame (getD bytes i 0)) (quiet : Bool) (eq : quiet ≡ isSilent (t .heard)) where
-    abbrev called : Called
-    called = record { line = lineOn l (t .reader); call = callFor (l .previous) (t .heard) }
-
-    is-called : calledOf here frame (getD bytes i 0) ≡ called
-    is-called = ap (λ (z : Taken). record { line = lineOn l (z .reader); call = callFor (l .previous) (z .heard) }) (sym et)
-
-    is-quiet : isQuiet (calledOf here frame (getD bytes i 0) .call) ≡ quiet
-    is-quiet = ap (λ (z : Called). isQuiet (z .call)) is-called ∙ quiet-silent (l .previous) (t .heard) ∙ sym eq
-
-    opened : listenedTo l frame₀ bytes ≡ further i (either quiet called frame' (drop (suc i) bytes))
-    opened =
-        h .listens ∙ ap (λ z. further i (listenedTo here frame z)) (drop-cons bytes i 0 more)
-        ∙ ap (λ z. further i (either z (calledOf here frame (getD bytes i 0)) (frameAfter here frame (getD bytes i 0)) (drop (suc i) bytes))) is-quiet
-        ∙ ap (λ z. further i (either quiet z (frameAfter here frame (getD bytes i 0)) (drop (suc i) bytes))) is-called
-        ∙ ap (λ z. further i (either quiet called z (drop (suc i) bytes))) (sym ef)
-
-    kept : frameBehind l frame₀ bytes ≡ framed quiet called frame' (drop (suc i) bytes)
-    kept =
-        h .frames ∙ ap (λ z. frameBehind here frame z) (drop-cons bytes i 0 more)
-        ∙ ap (λ z. framed z (calledOf here frame (getD bytes i 0)) (frameAfter here frame (getD bytes i 0)) (drop (suc i) bytes)) is-quiet
-        ∙ ap (λ z. framed quiet z (frameAfter here frame (getD bytes i 0)) (drop (suc i) bytes)) is-called
-        ∙ ap (λ z. framed quiet called z (drop (suc i) bytes)) (sym ef)
-
-    -- nothing asked for: one byte further
-    pub head-quiet : not quiet ≡ false → Head l frame₀ bytes frame' (t .reader) (i + 1)
-    head-quiet n =
-        let q = is-true quiet n in
-        let later : Listened = listenedTo (lineOn l (t .reader)) frame' (drop (suc i) bytes) in
-        let sum : i + (later .taken + 1) ≡ i + 1 + later .taken = omega arith in
-        record {
-          within = omega arith;
-          listens =
-              opened ∙ ap (λ z. further i (either z called frame' (drop (suc i) bytes))) q
-              ∙ ap (λ k. record { line = later .line; call = later .call; taken = k }) sum
-              ∙ ap (λ k. further (i + 1) (listenedTo (lineOn l (t .reader)) frame' (drop k bytes))) (sym (add-one i));
-          frames =
-              kept ∙ ap (λ z. framed z called frame' (drop (suc i) bytes)) q
-              ∙ ap (λ k. frameBehind (lineOn l (t .reader)) frame' (drop k bytes)) (sym (add-one i));
-        }
-
-    -- something asked for: the end
-    pub head-asks : not quiet ≡ true → (r : Listened) → r ≡ record { line = lineOn l (t .reader); call = callFor (l .previous) (t .heard); taken = i + 1 }
-        → (r ≡ listenedTo l frame₀ bytes) × (frame' ≡ frameBehind l frame₀ bytes)
-    head-asks n r er =
-        let q = is-false quiet n in
-        (er ∙ sym (opened ∙ ap (λ z. further i (either z called frame' (drop (suc i) bytes))) q), sym (kept ∙ ap (λ z. framed z called frame' (drop (suc i) bytes)) q))
-
-  -- the end of the part
-  pub head-done : length bytes ≤ i → (r : Listened) → r ≡ record { line = here; call = Quiet; taken = i } → (r ≡ listenedTo l frame₀ bytes) × (frame ≡ frameBehind l frame₀ bytes)
-  head-done done r er =
-      let n : i + 0 ≡ i = omega arith in (
-        er ∙ sym (h .listens ∙ ap (λ z. further i (listenedTo here frame z)) (drop-of-length-le bytes done) ∙ ap (λ k. record { line = here; call = Quiet; taken = k }) n),
-        sym (h .frames ∙ ap (λ z. frameBehind here frame z) (drop-of-length-le bytes done)),
-      )
+-- so is what the code gives back
+pub listens : (l : Line) (frame bytes : List ℕ) (s : Stretch) (frame' : List ℕ) → record { stretch = s; array = frame' } ≡ stretched Command (l .reader) frame bytes
+    → (r : Listened) → r ≡ listenedOf l s → (r ≡ listenedTo l frame bytes) × (frame' ≡ frameBehind l frame bytes)
+listens l frame bytes s frame' e r er =
+    let whole = as-stretch bytes l frame in
+    (er ∙ ap (λ (z : Stretched). listenedOf l (z .stretch)) e ∙ sym (whole .0), ap (λ (z : Stretched). z .array) e ∙ sym (whole .1))
 
 -- no more bytes are taken than there are
 pub listened-within : (bytes : List ℕ) (l : Line) (frame : List ℕ) → listenedTo l frame bytes .taken ≤ length bytes

@@ -58,9 +58,3 @@ isQuiet Quiet = true
 isQuiet Nak = false
 isQuiet Again = false
 isQuiet (Order seq code n) = false
-
--- a byte that brings nothing
-abbrev pub isSilent : Heard → Bool
-isSilent heards.Nothing = true
-isSilent heards.Broken = false
-isSilent (heards.Whole seq code count) = false

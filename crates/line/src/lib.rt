@@ -1,11 +1,12 @@
 // The line: what bytes ask of the device. A quiet byte moves a few scalars; the frame before and the books are not touched.
+use reader::FRAME_ROOM;
 use reader::Heard;
 use reader::Reader;
-use wire::Kind;
+use reader::stretches;
 ghost use mathlib.Core.Path.{_≡_};
 ghost use Rattle.reader.specs.Reading.{outside};
 ghost use Rattle.reader.specs.Fields.{readerOf};
-ghost use Rattle.line.specs.Calls.{isRepeat, isSilent, callFor};
+ghost use Rattle.line.specs.Calls.{isRepeat, callFor};
 ghost use Rattle.line.specs.Listening.{listenedTo, frameBehind};
 ghost use Rattle.line.specs.declared.Previous.the-variants.{Nothing};
 
@@ -35,6 +36,7 @@ pub struct Listened {
     pub taken: usize,
 }
 
+// A line on which nothing has come.
 pub fn fresh() -> Line
     ensures { λ r. ⌜ r ≡ record { reader = readerOf outside; previous = Nothing } ⌝ }
 {
@@ -45,24 +47,17 @@ pub fn fresh() -> Line
     }
 }
 
-pub fn listen(line: Line, frame: &mut [u8; 256], bytes: &[u8]) -> Listened
+// Listening to a lent part: what the first byte that asks for something asks, and how many bytes were taken.
+pub fn listen(line: Line, frame: &mut [u8; FRAME_ROOM], bytes: &[u8]) -> Listened
     ensures { λ r. ⌜ r ≡ listenedTo line (now (frame .entry)) (now (bytes .entry)) ⌝ }
     ensures { λ r. ⌜ now (frame .exit) ≡ frameBehind line (now (frame .entry)) (now (bytes .entry)) ⌝ }
 {
     let previous = line.previous;
-    let mut reader = line.reader;
-    let mut i = 0;
-    while i < bytes.len() {
-        let taken = reader::take_byte(Kind::Command, reader, frame, bytes[i]);
-        let next = taken.reader;
-        let heard = taken.heard;
-        reader = next;
-        i += 1;
-        if !is_silent(heard) {
-            return asks(reader, previous, heard, i);
-        }
-    }
-    asks(reader, previous, Heard::Nothing, i)
+    let reader = line.reader;
+    let stretch = stretches::take_stretch(reader, frame, bytes);
+    let next = stretch.reader;
+    let heard = stretch.heard;
+    asks(next, previous, heard, stretch.taken)
 }
 
 fn asks(reader: Reader, previous: Previous, heard: Heard, taken: usize) -> Listened
@@ -103,19 +98,5 @@ fn is_repeat(p: Previous, seq: u8, code: u8) -> bool
             }
             false
         }
-    }
-}
-
-fn is_silent(heard: Heard) -> bool
-    ensures { λ r. ⌜ r ≡ isSilent heard ⌝ }
-{
-    match heard {
-        Heard::Nothing => true,
-        Heard::Broken => false,
-        Heard::Whole {
-            seq: _,
-            code: _,
-            count: _,
-        } => false,
     }
 }

@@ -1,18 +1,17 @@
 -- Built is all that is read, over any history.
 use mathlib.Core.Path.{_≡_, refl, sym, ap, _∙_, subst}
-use mathlib.Core.Bool.{Bool, true, false, cond, false≢true}
+use mathlib.Core.Bool.{true, false≢true}
 use mathlib.Core.Logic.{_⊎_, ⊎-elim, inl, inr}
 use mathlib.Core.List.{List, [], _∷_, _++_, append-assoc, append-nil}
 use Prim.Native.Nat.{ℕ, _+_}
 use native.Mathlib.Omega.{arith}
-use lib.Dec.{eqb}
 use lib.ListN.{length}
 use borrow.Author.Tests.{eqb-true}
 use Rattle.wire.specs.Frame.{Message, frame, sendable}
 use Rattle.wire.specs.Places.{front, dataCount}
 use Rattle.wire.specs.declared.Kind.{Kind}
-use Rattle.reader.specs.Reading.{Place, outside, inside, heard, Read, read, readOther, startsAnew, message, suits, atLast, grown, run}
-use Rattle.reader.proofs.Steps.{reads-broken, reads-more, reads-whole}
+use Rattle.reader.specs.Reading.{Place, outside, inside, heard, Read, read, startsAnew, message, suits, atLast, grown, run}
+use Rattle.reader.proofs.Steps.{Ways, starts-anew, is-skipped, breaks, goes-on, ends, ways}
 use Rattle.reader.proofs.Passing.{done}
 use Rattle.reader.proofs.BuiltOnly.{Grown, grow, cases, whole-ending}
 
@@ -30,23 +29,20 @@ begins k sum bytes b g e =
     (λ some. grow k sum bytes b some e)
     g
 
-known-other : (k : Kind) (hist : List ℕ) (p : Place) (b : ℕ) → Known k hist p → Known k (hist ++ b ∷ []) (readOther k p b .place)
-known-other k hist outside b h = tt
-known-other k hist (inside sum bytes) b h = go (suits k sum bytes b) refl (atLast k bytes) refl
-  where
-    go : (s : Bool) → suits k sum bytes b ≡ s → (l : Bool) → atLast k bytes ≡ l → Known k (hist ++ b ∷ []) (readOther k (inside sum bytes) b .place)
-    go false es l el = subst (λ (r : Read). Known k (hist ++ b ∷ []) (r .place)) (sym (reads-broken k sum bytes b es)) tt
-    go true es true el = subst (λ (r : Read). Known k (hist ++ b ∷ []) (r .place)) (sym (reads-whole k sum bytes b es el)) tt
-    go true es false el =
-        subst (λ (r : Read). Known k (hist ++ b ∷ []) (r .place)) (sym (reads-more k sum bytes b es el))
-        ((h .0 .0, ap (λ z. z ++ b ∷ []) (h .0 .1) ∙ append-assoc (h .0 .0) (0x01 ∷ bytes) (b ∷ [])), inr (begins k sum bytes b (h .1) es))
-
 known-step : (k : Kind) (hist : List ℕ) (p : Place) (b : ℕ) → Known k hist p → Known k (hist ++ b ∷ []) (read k p b .place)
-known-step k hist p b h = go (eqb b 0x01) refl
+known-step k hist p b h = go (ways k p b)
   where
-    go : (start : Bool) → eqb b 0x01 ≡ start → Known k (hist ++ b ∷ []) (cond start (record { place = inside 0 []; event = startsAnew p }) (readOther k p b) .place)
-    go true e = ((hist, ap (λ z. hist ++ z ∷ []) (eqb-true b 0x01 e)), inl refl)
-    go false e = known-other k hist p b h
+    Next : Read → Type 0
+    Next r = Known k (hist ++ b ∷ []) (r .place)
+
+    go : Ways k p b → Next (read k p b)
+    go (starts-anew is e) = subst Next (sym e) ((hist, ap (λ z. hist ++ z ∷ []) is), inl refl)
+    go (is-skipped is e) = subst Next (sym e) tt
+    go (breaks e) = subst Next (sym e) tt
+    go (goes-on sum bytes is fits more e) =
+        let here = subst (Known k hist) is h in
+        subst Next (sym e) ((here .0 .0, ap (λ z. z ++ b ∷ []) (here .0 .1) ∙ append-assoc (here .0 .0) (0x01 ∷ bytes) (b ∷ [])), inr (begins k sum bytes b (here .1) fits))
+    go (ends sum bytes is fits last e) = subst Next (sym e) tt
 
 pub known-run : (k : Kind) (bs hist : List ℕ) (p : Place) → Known k hist p → Known k (hist ++ bs) (run k p bs .place)
 known-run k [] hist p h = rw append-nil h
@@ -82,24 +78,23 @@ whole-known k hist sum bytes b h es el =
     let all = ⊎-elim (λ none. subst (Whole k sum b) (sym none) (λ es el. absurd (false≢true el))) (whole-grown k sum bytes b) (h .1) es el in
     (all .1, (h .0 .0, ap (λ z. z ++ b ∷ []) (h .0 .1) ∙ append-assoc (h .0 .0) (0x01 ∷ bytes) (b ∷ []) ∙ ap (λ z. h .0 .0 ++ z) (all .0)))
 
-heard-other : (k : Kind) (hist : List ℕ) (p : Place) (b : ℕ) (m : Message) → Known k hist p → readOther k p b .event ≡ heard m → Ends k (hist ++ b ∷ []) m
-heard-other k hist outside b m h e = absurd (no-start outside m e)
-heard-other k hist (inside sum bytes) b m h e = go (suits k sum bytes b) refl (atLast k bytes) refl
+heard-step : (k : Kind) (hist : List ℕ) (p : Place) (b : ℕ) (m : Message) → Known k hist p → read k p b .event ≡ heard m → Ends k (hist ++ b ∷ []) m
+heard-step k hist p b m h er = go (ways k p b)
   where
-    go : (s : Bool) → suits k sum bytes b ≡ s → (l : Bool) → atLast k bytes ≡ l → Ends k (hist ++ b ∷ []) m
-    go false es l el = absurd (no-start (inside 0 (0 ∷ [])) m (sym (ap (λ (r : Read). r .event) (reads-broken k sum bytes b es)) ∙ e))
-    go true es false el = absurd (no-start outside m (sym (ap (λ (r : Read). r .event) (reads-more k sum bytes b es el)) ∙ e))
-    go true es true el =
-        let same : heard (message k bytes) ≡ heard m = sym (ap (λ (r : Read). r .event) (reads-whole k sum bytes b es el)) ∙ e in
-        let is : message k bytes ≡ m = cc in
-        subst (Ends k (hist ++ b ∷ [])) is (whole-known k hist sum bytes b h es el)
+    told : (r : Read) → read k p b ≡ r → r .event ≡ heard m
+    told r e = sym (ap (λ (z : Read). z .event) e) ∙ er
+
+    go : Ways k p b → Ends k (hist ++ b ∷ []) m
+    go (starts-anew is e) = absurd (no-start p m (told _ e))
+    go (is-skipped is e) = absurd (no-start outside m (told _ e))
+    go (breaks e) = absurd (no-start (inside 0 (0 ∷ [])) m (told _ e))
+    go (goes-on sum bytes is fits more e) = absurd (no-start outside m (told _ e))
+    go (ends sum bytes is fits last e) =
+        let same : heard (message k bytes) ≡ heard m = told _ e in
+        let message-is : message k bytes ≡ m = cc in
+        subst (Ends k (hist ++ b ∷ [])) message-is (whole-known k hist sum bytes b (subst (Known k hist) is h) fits last)
 
 -- the theorem: a byte that is heard as a whole message ends the frame of that message, which could be sent
 pub built-is-all-that-is-read : (k : Kind) (bs : List ℕ) (b : ℕ) (m : Message) → read k (run k outside bs .place) b .event ≡ heard m
     → (sendable k m ≡ true) × ((before : List ℕ) × (bs ++ b ∷ [] ≡ before ++ frame k m))
-built-is-all-that-is-read k bs b m = go (eqb b 0x01)
-  where
-    go : (start : Bool) → cond start (record { place = inside 0 []; event = startsAnew (run k outside bs .place) }) (readOther k (run k outside bs .place) b) .event ≡ heard m
-        → (sendable k m ≡ true) × ((before : List ℕ) × (bs ++ b ∷ [] ≡ before ++ frame k m))
-    go true e = absurd (no-start (run k outside bs .place) m e)
-    go false e = heard-other k bs (run k outside bs .place) b m (known-run k bs [] outside tt) e
+built-is-all-that-is-read k bs b m = heard-step k bs (run k outside bs .place) b m (known-run k bs [] outside tt)

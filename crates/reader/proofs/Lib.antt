@@ -6,3 +6,4 @@ pub mod RoundTrip
 pub mod BuiltOnly
 pub mod History
 pub mod Holding
+pub mod Stretching

@@ -18,7 +18,7 @@ use Rattle.wire.specs.declared.Sort.the-variants.{Mark, Data, Status}
 use Rattle.text.proofs.Laws.{empty}
 use Rattle.wire.proofs.Suits.{both, length-front, behind-small}
 use Rattle.wire.proofs.Building.{bcc-mod, length-enclosed}
-use Rattle.reader.specs.Reading.{Place, outside, inside, Event, nothing, heard, read, startsAnew, message, Run, run}
+use Rattle.reader.specs.Reading.{Place, outside, inside, nothing, heard, read, startsAnew, message, Run, run}
 use Rattle.reader.proofs.Steps.{read-start, read-other, reads-whole, len-more}
 use Rattle.reader.proofs.Passing.{Pass, done, more, pass-join, pass-every}
 use Rattle.reader.proofs.Walking.{sumOn, sum-total, run-first, quiet, quiet-then, walk-front, walk-ending}
@@ -84,12 +84,6 @@ status-back Answer m rest h =
     ∙ ap (take 6) (drop-at (m .content ++ 0x04 ∷ []) (m .status ++ 0x05 ∷ rest) (1 + length (m .content)) front)
     ∙ take-at (m .status) (0x05 ∷ rest) 6 (h .size)
 
-silences : (n : ℕ) (e : Event) → nothing ∷ (replicate n nothing ++ (replicate 4 nothing ++ e ∷ [])) ≡ replicate (n + 5) nothing ++ e ∷ []
-silences n e =
-    let one : suc (n + 4) ≡ n + 5 = omega arith in
-    ap (λ z. nothing ∷ z) (sym (append-assoc (replicate n nothing) (replicate 4 nothing) (e ∷ [])) ∙ ap (λ z. z ++ e ∷ []) (replicate-append-replicate n 4 nothing))
-    ∙ ap (λ j. replicate j nothing ++ e ∷ []) one
-
 same : (n : ℕ) → is n n ≡ true
 same n = eq-eqb n n refl
 
@@ -145,7 +139,7 @@ module _ (k : Kind) (m : Message) (h : Parts k m) where
   walked-quad = walk-ending k len (rw quad-is at (pass-quad sum)) (front k (dataCount k len)) body sum refl (sym length-body) (omega (arith, length-body)) (omega (arith, length-body))
 
   -- 03h
-  read-last : read k (inside sum (len ∷ (body ++ quad))) 0x03 ≡ record { place = outside; event = heard m }
+  pub read-last : read k (inside sum (len ∷ (body ++ quad))) 0x03 ≡ record { place = outside; event = heard m }
   read-last =
       let tests : List (ℕ → Bool) = front k (dataCount k len) in
       let at : length (body ++ quad) ≡ length tests + 4 = length-append body quad ∙ ap (λ n. n + 4) length-body in
@@ -161,18 +155,21 @@ module _ (k : Kind) (m : Message) (h : Parts k m) where
       let size = length-inner k m h in
       read-other k (inside 0 []) len (λ e. omega arith) ∙ len-more k len (omega arith) (omega (arith, h .few))
 
-  -- all behind 01h
+  -- all between 01h and 03h
+  pub walked : run k (inside 0 []) (len ∷ (body ++ quad)) ≡ quiet (inside sum (len ∷ (body ++ quad))) (length (inner k m) + 8)
+  walked =
+      let size : suc (length body + 4) ≡ length (inner k m) + 8 = omega (arith, length-append (inner k m) (0x05 ∷ [])) in
+      run-first k (inside 0 []) len (body ++ quad) _ read-len
+      ∙ ap (λ (r : Run). record { place = r .place; events = nothing ∷ r .events })
+      (quiet-then k (inside len (len ∷ [])) (inside sum (len ∷ body)) body quad (length body) _ walked-body walked-quad)
+      ∙ ap (λ es. record { place = inside sum (len ∷ (body ++ quad)); events = nothing ∷ es }) (replicate-append-replicate (length body) 4 nothing)
+      ∙ ap (quiet (inside sum (len ∷ (body ++ quad)))) size
+
   heard-behind : run k (inside 0 []) (counted (m .seq) (m .code) (inner k m) ++ quad ++ 0x03 ∷ [])
       ≡ record { place = outside; events = replicate (length (inner k m) + 8) nothing ++ heard m ∷ [] }
   heard-behind =
-      let end = run-first k (inside sum (len ∷ (body ++ quad))) 0x03 [] _ read-last in
-      let three : run k (inside len (len ∷ [])) (body ++ (quad ++ 0x03 ∷ [])) ≡ _ =
-      quiet-then k (inside len (len ∷ [])) (inside sum (len ∷ body)) body (quad ++ 0x03 ∷ []) (length body) _ walked-body
-      (quiet-then k (inside sum (len ∷ body)) (inside sum (len ∷ (body ++ quad))) quad (0x03 ∷ []) 4 _ walked-quad end) in
-      let size : length body + 5 ≡ length (inner k m) + 8 = omega (arith, length-append (inner k m) (0x05 ∷ [])) in
-      run-first k (inside 0 []) len (body ++ quad ++ 0x03 ∷ []) _ read-len
-      ∙ ap (λ (r : Run). record { place = r .place; events = nothing ∷ r .events }) (ap (run k (inside len (len ∷ []))) (append-assoc body quad (0x03 ∷ [])) ∙ three)
-      ∙ ap (λ es. record { place = outside; events = es }) (silences (length body) (heard m) ∙ ap (λ n. replicate n nothing ++ heard m ∷ []) size)
+      quiet-then k (inside 0 []) (inside sum (len ∷ (body ++ quad))) (len ∷ (body ++ quad)) (0x03 ∷ []) (length (inner k m) + 8) _ walked
+      (run-first k (inside sum (len ∷ (body ++ quad))) 0x03 [] _ read-last)
 
 -- the theorem: from any place, the first byte gives what 01h gives there, the others nothing, and the last the whole message
 pub read-what-was-built : (k : Kind) (m : Message) → sendable k m ≡ true → (p : Place)

@@ -6,14 +6,13 @@ use Prim.Native.Nat.{ℕ, suc, _+_, _*_, _≤_, _<_}
 use native.Mathlib.Nat.{add-assoc, add-zero, zero-add}
 use native.Mathlib.Numerals.{add-one}
 use native.Mathlib.Omega.{arith}
-use lib.Dec.{eqb}
 use lib.ListN.{length, getD, take, drop, replicate, length-append, length-replicate, length-take, drop-of-length-le}
 use lib.Seq.{sets-eq, length-sets, take-at, drop-cons}
 use Rattle.reader.specs.Private.{brokenOf, wholeOf}
-use Rattle.reader.specs.Reading.{Place, outside, inside, Read, Event, nothing, brokenFrame, heard, Standing, broken, beginning, whole, standing, goesOn, grown, message, startsAnew, read, readOther, Run, run}
-use Rattle.wire.specs.Frame.{Message}
+use Rattle.reader.specs.Reading.{Place, outside, inside, Read, Event, nothing, brokenFrame, heard, read, Run, run}
 use Rattle.reader.specs.Fields.{placeOf, readerOf, keptIn, heardNumber, heardValues, heardOf, takenOf, toldOf, count, brokenIn, wholeIn}
 use Rattle.wire.specs.declared.Kind.{Kind}
+use Rattle.reader.proofs.Steps.{Ways, starts-anew, is-skipped, breaks, goes-on, ends, ways}
 use Rattle.reader.specs.declared.Heard.{Heard}
 use Rattle.reader.specs.declared.Heard.the-variants.{Nothing, Broken, Whole}
 use Rattle.reader.specs.declared.Reader.{Reader}
@@ -32,22 +31,18 @@ place-back array (inside sum bytes) h =
     ap (inside sum) (ap (take (length bytes)) (sets-eq bytes array 0 (omega arith)) ∙ take-at bytes (drop (0 + length bytes) array) (length bytes) refl)
 
 -- a step brings one byte at most
-goes-room : (st : Standing) (next : Place) (m : Message) → length (bytesOf (goesOn st next m .place)) ≤ length (bytesOf next)
-goes-room broken next m = omega arith
-goes-room beginning next m = omega arith
-goes-room whole next m = omega arith
-
-other-room : (k : Kind) (p : Place) (b : ℕ) → length (bytesOf (readOther k p b .place)) ≤ length (bytesOf p) + 1
-other-room k outside b = omega arith
-other-room k (inside sum bytes) b =
-    omega (arith, goes-room (standing k sum bytes b) (inside (grown k sum bytes b) (bytes ++ b ∷ [])) (message k bytes), length-append bytes (b ∷ []))
-
 pub read-room : (k : Kind) (p : Place) (b : ℕ) → length (bytesOf (read k p b .place)) ≤ length (bytesOf p) + 1
-read-room k p b = go (eqb b 0x01)
+read-room k p b = go (ways k p b)
   where
-    go : (start : Bool) → length (bytesOf (cond start (record { place = inside 0 []; event = startsAnew p }) (readOther k p b) .place)) ≤ length (bytesOf p) + 1
-    go true = omega arith
-    go false = other-room k p b
+    Room : Read → Type 0
+    Room r = length (bytesOf (r .place)) ≤ length (bytesOf p) + 1
+
+    go : Ways k p b → Room (read k p b)
+    go (starts-anew is e) = subst Room (sym e) (omega arith)
+    go (is-skipped is e) = subst Room (sym e) (omega arith)
+    go (breaks e) = subst Room (sym e) (omega arith)
+    go (goes-on sum bytes is fits more e) = subst Room (sym e) (omega (arith, length-append bytes (b ∷ []), ap (λ q. length (bytesOf q)) is))
+    go (ends sum bytes is fits last e) = subst Room (sym e) (omega arith)
 
 -- what one byte adds to the counts
 broken-heard : (e : Event) → brokenOf (heardOf e) ≡ brokenIn e

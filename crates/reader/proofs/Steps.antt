@@ -7,7 +7,7 @@ use native.Mathlib.Omega.{arith}
 use lib.Dec.{ltb, eqb}
 use lib.ListN.{length, getD, take, drop, set, length-append, length-drop, List·getD-append}
 use lib.Seq.{getD-append-add, length-take-le, getD-take}
-use borrow.Author.Tests.{le-leb, lt-leb, lt-ltb, le-ltb, eq-eqb, ne-eqb}
+use borrow.Author.Tests.{le-leb, lt-leb, lt-ltb, le-ltb, eq-eqb, ne-eqb, eqb-true, eqb-false}
 use Rattle.text.proofs.Laws.{sets-append, sets-same}
 use Rattle.wire.proofs.Suits.{length-front}
 use Rattle.wire.specs.Bytes.{within}
@@ -163,3 +163,29 @@ place-in r array e = rw e
 
 pub place-out : (r : Reader) (array : List ℕ) → r .inside ≡ false → placeOf r array ≡ outside
 place-out r array e = rw e
+
+-- the five ways of a byte, wherever reading stands
+pub data Ways (k : Kind) (p : Place) (b : ℕ) : Type 0 where
+  starts-anew : b ≡ 0x01 → read k p b ≡ record { place = inside 0 []; event = startsAnew p } → Ways k p b
+  is-skipped : p ≡ outside → read k p b ≡ record { place = outside; event = nothing } → Ways k p b
+  breaks : read k p b ≡ record { place = outside; event = brokenFrame } → Ways k p b
+  goes-on : (sum : ℕ) (bytes : List ℕ) → p ≡ inside sum bytes → suits k sum bytes b ≡ true → atLast k bytes ≡ false
+      → read k p b ≡ record { place = inside (grown k sum bytes b) (bytes ++ b ∷ []); event = nothing } → Ways k p b
+  ends : (sum : ℕ) (bytes : List ℕ) → p ≡ inside sum bytes → suits k sum bytes b ≡ true → atLast k bytes ≡ true
+      → read k p b ≡ record { place = outside; event = heard (message k bytes) } → Ways k p b
+
+pub ways : (k : Kind) (p : Place) (b : ℕ) → Ways k p b
+ways k p b = go (eqb b 0x01) refl p
+  where
+    go : (start : Bool) → eqb b 0x01 ≡ start → (q : Place) → Ways k q b
+    go true e q = starts-anew (eqb-true b 0x01 e) (read-start k q b (eqb-true b 0x01 e))
+    go false e outside = is-skipped refl (read-other k outside b (eqb-false b 0x01 e))
+    go false e (inside sum bytes) = fit (suits k sum bytes b) refl (atLast k bytes) refl
+      where
+        other : read k (inside sum bytes) b ≡ readOther k (inside sum bytes) b
+        other = read-other k (inside sum bytes) b (eqb-false b 0x01 e)
+
+        fit : (s : Bool) → suits k sum bytes b ≡ s → (l : Bool) → atLast k bytes ≡ l → Ways k (inside sum bytes) b
+        fit false es l el = breaks (other ∙ reads-broken k sum bytes b es)
+        fit true es false el = goes-on sum bytes refl es el (other ∙ reads-more k sum bytes b es el)
+        fit true es true el = ends sum bytes refl es el (other ∙ reads-whole k sum bytes b es el)

@@ -1,6 +1,6 @@
 -- What the reader's fields say, with the lent array, and the numbers of what a byte brings (PROTOCOL 2.1).
 use Prim.Native.Nat.{ℕ, _+_}
-use mathlib.Core.Bool.{true, false, cond}
+use mathlib.Core.Bool.{Bool, true, false, cond}
 use mathlib.Core.List.{List, [], _∷_}
 use lib.Dec.{eqb}
 use lib.ListN.{length, take}
@@ -43,6 +43,12 @@ abbrev pub heardOf : Event → Heard
 heardOf nothing = Nothing
 heardOf brokenFrame = Broken
 heardOf (heard m) = Whole (m .seq) (m .code) (length (m .content))
+
+-- a byte that brings nothing
+abbrev pub isSilent : Heard → Bool
+isSilent Nothing = true
+isSilent Broken = false
+isSilent (Whole seq code count) = false
 
 abbrev pub takenOf : Read → Taken
 takenOf r = record { reader = readerOf (r .place); heard = heardOf (r .event) }

@@ -1,5 +1,9 @@
 // Reading a frame, one byte at a time (PROTOCOL 1.7 to 1.9).
+pub mod stretches;
+
 use wire::Kind;
+use wire::LEAST_LEN;
+use wire::MOST_DATA;
 use wire::suit;
 ghost use mathlib.Core.Path.{_≡_};
 ghost use mathlib.Core.Bool.{cond, _&&_};
@@ -11,6 +15,9 @@ ghost use Rattle.wire.specs.Places.{front};
 ghost use Rattle.reader.specs.Reading.{read, readOther, run, outside, inside, nothing, brokenFrame};
 ghost use Rattle.reader.specs.Private.{Behind, brokenOf, wholeOf};
 ghost use Rattle.reader.specs.Fields.{placeOf, readerOf, keptIn, takenOf, toldOf};
+
+// How many bytes are lent for those of a frame since 01h.
+pub const FRAME_ROOM: usize = 256;
 
 // Where reading stands. The bytes since 01h are the first `count` of a lent array, so that a byte moves three scalars only.
 pub struct Reader {
@@ -31,6 +38,14 @@ pub struct Taken {
     pub heard: Heard,
 }
 
+// What a stretch of bytes brought, and how many they were: those of a lent part up to and including the first that brings something, or
+// all of them.
+pub struct Stretch {
+    pub reader: Reader,
+    pub heard: Heard,
+    pub taken: usize,
+}
+
 // What a whole run of bytes brought: where reading stands behind it, the broken frames and the whole ones.
 pub struct Told {
     pub reader: Reader,
@@ -38,6 +53,7 @@ pub struct Told {
     pub whole: usize,
 }
 
+// A reader that stands outside a frame.
 pub fn fresh() -> Reader
     ensures { λ r. ⌜ r ≡ readerOf outside ⌝ }
 {
@@ -48,7 +64,8 @@ pub fn fresh() -> Reader
     }
 }
 
-pub fn take_byte(kind: Kind, reader: Reader, array: &mut [u8; 256], b: u8) -> Taken
+// One byte: what it brings, and where reading stands behind it.
+pub fn take_byte(kind: Kind, reader: Reader, array: &mut [u8; FRAME_ROOM], b: u8) -> Taken
     ensures { λ r. ⌜ r ≡ takenOf (read kind (placeOf reader (now (array .entry))) b) ⌝ }
     ensures { λ r. ⌜ now (array .exit) ≡ keptIn (now (array .entry)) (read kind (placeOf reader (now (array .entry))) b .place) ⌝ }
 {
@@ -91,7 +108,7 @@ fn first(bytes: &[u8]) -> u8
 pub fn listen(kind: Kind, bytes: &[u8]) -> Told
     ensures { λ r. ⌜ r ≡ toldOf (run kind outside (now (bytes .entry))) ⌝ }
 {
-    let mut array = [0u8; 256];
+    let mut array = [0u8; FRAME_ROOM];
     let mut reader = fresh();
     let mut broken: usize = 0;
     let mut whole: usize = 0;
@@ -144,10 +161,9 @@ fn whole_in(heard: Heard) -> usize
 fn started(within: bool, count: u8) -> Taken
     ensures { λ r. ⌜ r ≡ takenOf (record { place = inside 0 []; event = cond (within && ltb 0 count) brokenFrame nothing }) ⌝ }
 {
-    let behind = 0;
     let reader = Reader {
         inside: true,
-        count: behind,
+        count: 0,
         sum: 0,
     };
     if !within {
@@ -178,16 +194,16 @@ fn broken() -> Taken
 }
 
 // The byte directly behind 01h.
-fn take_len(kind: Kind, array: &mut [u8; 256], b: u8) -> Taken
+fn take_len(kind: Kind, array: &mut [u8; FRAME_ROOM], b: u8) -> Taken
     ensures { λ r. ⌜ r ≡ takenOf (readOther kind (inside 0 []) b) ⌝ }
     ensures { λ r. ⌜ now (array .exit) ≡ keptIn (now (array .entry)) (readOther kind (inside 0 []) b .place) ⌝ }
 {
-    let least = 0x24 + suit::behind_data(kind);
+    let least = LEAST_LEN + suit::behind_data(kind);
     let len = b as usize;
     if len < least {
         return broken();
     }
-    if least + 200 < len {
+    if least + MOST_DATA < len {
         return broken();
     }
     array[0] = b;
@@ -202,7 +218,14 @@ fn take_len(kind: Kind, array: &mut [u8; 256], b: u8) -> Taken
 }
 
 // A byte behind LEN.
-fn take_behind(kind: Kind, n: usize, count: u8, sum: u16, array: &mut [u8; 256], b: u8) -> Taken
+fn take_behind(
+    kind: Kind,
+    n: usize,
+    count: u8,
+    sum: u16,
+    array: &mut [u8; FRAME_ROOM],
+    b: u8,
+) -> Taken
     requires { ⌜ Behind kind n count (now array) ⌝ }
     ensures { λ r. ⌜ r ≡ takenOf (readOther kind (inside sum (take count (now (array .entry)))) b) ⌝ }
     ensures { λ r. ⌜ now (array .exit) ≡ keptIn (now (array .entry)) (readOther kind (inside sum (take count (now (array .entry)))) b .place) ⌝ }
@@ -216,7 +239,14 @@ fn take_behind(kind: Kind, n: usize, count: u8, sum: u16, array: &mut [u8; 256],
 }
 
 // A byte up to 05h: it is added.
-fn take_front(kind: Kind, n: usize, count: u8, sum: u16, array: &mut [u8; 256], b: u8) -> Taken
+fn take_front(
+    kind: Kind,
+    n: usize,
+    count: u8,
+    sum: u16,
+    array: &mut [u8; FRAME_ROOM],
+    b: u8,
+) -> Taken
     requires { ⌜ Behind kind n count (now array) ⌝ }
     requires { ⌜ count ≤ length (front kind n) ⌝ }
     ensures { λ r. ⌜ r ≡ takenOf (readOther kind (inside sum (take count (now (array .entry)))) b) ⌝ }
@@ -244,7 +274,7 @@ fn take_ending(
     edge: usize,
     count: u8,
     sum: u16,
-    array: &mut [u8; 256],
+    array: &mut [u8; FRAME_ROOM],
     b: u8,
 ) -> Taken
     requires { ⌜ Behind kind n count (now array) ⌝ }

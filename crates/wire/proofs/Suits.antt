@@ -36,6 +36,13 @@ within-byte lowest b h = rw (le-leb b 0xFF (omega arith)) (sym (&&-true (leb low
 pub data-byte : (b : ℕ) → b < 256 → (b ≡ 0x09 → ⊥) → (b ≡ 0x0A → ⊥) → leb 0x20 b ≡ mayStandInData b
 data-byte b h p q = rw (ne-eqb b 0x09 p, ne-eqb b 0x0A q) (within-byte 0x20 b h)
 
+pub data-feed : (b : ℕ) → 0x09 ≤ b → b < 0x0B → true ≡ mayStandInData b
+data-feed b h g = go (decLt b 0x0A)
+  where
+    go : Dec (b < 0x0A) → true ≡ mayStandInData b
+    go (yes less) = let e : b ≡ 0x09 = omega arith in rw e
+    go (no more) = let e : b ≡ 0x0A = omega arith in rw e
+
 -- every byte of a part, from the front on
 module _ (test : ℕ → Bool) (xs : List ℕ) (i : ℕ) where
   pub every-turn : i < length xs → test (getD xs i 0) ≡ true → every test (drop i xs) ≡ every test (drop (i + 1) xs)

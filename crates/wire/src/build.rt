@@ -1,5 +1,8 @@
 // Building frames into a lent buffer.
+use crate::ANSWER_ROOM;
 use crate::Built;
+use crate::COMMAND_ROOM;
+use crate::MOST_DATA;
 use crate::Sort;
 use crate::suit;
 ghost use mathlib.Core.Path.{_≡_};
@@ -15,7 +18,7 @@ ghost use Rattle.wire.specs.declared.Kind.the-variants.{Command, Answer}
 pub fn build_command(buf: &mut [u8], seq: u8, code: u8, content: &[u8]) -> Built
     ensures { λ r. ⌜ replyOf r (now (buf .exit)) ≡ building Command (now (buf .entry)) (commandOf seq code (now (content .entry))) ⌝ }
 {
-    if buf.len() < 210 {
+    if buf.len() < COMMAND_ROOM {
         return Built::Short;
     }
     if !can_carry(seq, code, content) {
@@ -29,7 +32,7 @@ pub fn build_command(buf: &mut [u8], seq: u8, code: u8, content: &[u8]) -> Built
 pub fn build_answer(buf: &mut [u8], seq: u8, code: u8, content: &[u8], status: [u8; 6]) -> Built
     ensures { λ r. ⌜ replyOf r (now (buf .exit)) ≡ building Answer (now (buf .entry)) (answerOf seq code (now (content .entry)) status) ⌝ }
 {
-    if buf.len() < 217 {
+    if buf.len() < ANSWER_ROOM {
         return Built::Short;
     }
     if !can_carry(seq, code, content) {
@@ -46,10 +49,10 @@ pub fn build_answer(buf: &mut [u8], seq: u8, code: u8, content: &[u8], status: [
 pub fn seal_answer(buf: &mut [u8], seq: u8, code: u8, n: usize, status: [u8; 6]) -> Built
     ensures { λ r. ⌜ replyOf r (now (buf .exit)) ≡ sealing (now (buf .entry)) seq code n status ⌝ }
 {
-    if buf.len() < 217 {
+    if buf.len() < ANSWER_ROOM {
         return Built::Short;
     }
-    if 200 < n {
+    if MOST_DATA < n {
         return Built::Unsendable;
     }
     Built::Frame(finish(buf, seq, code, n, status))
@@ -67,6 +70,7 @@ fn finish(buf: &mut [u8], seq: u8, code: u8, n: usize, status: [u8; 6]) -> usize
     enclose(buf, seq, code, n + 7)
 }
 
+// Whether SEQ, CMD and data are in their ranges.
 fn can_carry(seq: u8, code: u8, content: &[u8]) -> bool
     ensures { λ r. ⌜ r ≡ carriable seq code (now (content .entry)) ⌝ }
 {
@@ -76,7 +80,7 @@ fn can_carry(seq: u8, code: u8, content: &[u8]) -> bool
     if !suit::may_stand(Sort::Mark, code) {
         return false;
     }
-    if 200 < content.len() {
+    if MOST_DATA < content.len() {
         return false;
     }
     suit::all_may_stand(Sort::Data, content)
@@ -99,7 +103,8 @@ fn enclose(buf: &mut [u8], seq: u8, code: u8, n: usize) -> usize
     n + 10
 }
 
-fn sum_of(part: &[u8]) -> u16
+// The sum that BCC writes, of the bytes from LEN to 05h.
+pub fn sum_of(part: &[u8]) -> u16
     ensures { λ r. ⌜ r ≡ total (now (part .entry)) % 65536 ⌝ }
 {
     let mut sum: u16 = 0;

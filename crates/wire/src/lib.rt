@@ -2,6 +2,16 @@
 pub mod build;
 pub mod suit;
 
+// The most data bytes of a frame, and the LEN of a frame with none between CMD and 05h.
+pub const MOST_DATA: usize = 200;
+
+pub const LEAST_LEN: usize = 0x24;
+
+// How many bytes the longest command and the longest answer have: so many are to be lent.
+pub const COMMAND_ROOM: usize = 210;
+
+pub const ANSWER_ROOM: usize = 217;
+
 // Which of the two frames: the differing parts of both stand beside each other in `specs/`.
 pub enum Kind {
     Command,

@@ -1,5 +1,6 @@
 // Which bytes suit which place, and the four bytes of a BCC.
 use crate::Kind;
+use crate::LEAST_LEN;
 use crate::Sort;
 ghost use mathlib.Core.Path.{_≡_};
 ghost use Prim.Native.Nat.{_+_};
@@ -9,18 +10,17 @@ ghost use Rattle.wire.specs.Bytes.{mayStand, mayStandInData, every};
 ghost use Rattle.wire.specs.Frame.{bcc};
 ghost use Rattle.wire.specs.Places.{front, ending, behindData, dataCount, is, none};
 
+// Tab, line feed, and 20h and above.
 fn may_stand_in_data(b: u8) -> bool
     ensures { λ r. ⌜ r ≡ mayStandInData b ⌝ }
 {
-    if b == 0x09 {
-        return true;
+    match b {
+        0x09 | 0x0A | 0x20..=0xFF => true,
+        _ => false,
     }
-    if b == 0x0A {
-        return true;
-    }
-    0x20 <= b
 }
 
+// Whether a byte may stand where one of its sort stands.
 pub fn may_stand(sort: Sort, b: u8) -> bool
     ensures { λ r. ⌜ r ≡ mayStand sort b ⌝ }
 {
@@ -31,6 +31,7 @@ pub fn may_stand(sort: Sort, b: u8) -> bool
     }
 }
 
+// Whether each byte of a part may.
 pub fn all_may_stand(sort: Sort, part: &[u8]) -> bool
     ensures { λ r. ⌜ r ≡ every (mayStand sort) (now (part .entry)) ⌝ }
 {
@@ -44,7 +45,7 @@ pub fn all_may_stand(sort: Sort, part: &[u8]) -> bool
     true
 }
 
-// Highest digit first.
+// The four bytes of a BCC, the highest digit first.
 pub fn bcc_bytes(sum: u16) -> [u8; 4]
     ensures { λ r. ⌜ r ≡ bcc sum ⌝ }
 {
@@ -66,10 +67,11 @@ pub fn behind_data(kind: Kind) -> usize
     }
 }
 
+// How many data bytes LEN announces; 0 where it announces none or is no LEN.
 pub fn data_count(kind: Kind, len: u8) -> usize
     ensures { λ r. ⌜ r ≡ dataCount kind len ⌝ }
 {
-    let least = 0x24 + behind_data(kind);
+    let least = LEAST_LEN + behind_data(kind);
     let l = len as usize;
     if l < least {
         return 0;

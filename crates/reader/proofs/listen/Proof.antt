@@ -1,3 +1,4 @@
+-- The loop's invariant: what i bytes brought is counted, and what the rest brings from here makes the whole.
 use Prim.Native.Nat.{_-_}
 use native.Mathlib.Omega.{arith}
 use borrow.Author.Needs.{needs}
@@ -45,9 +46,11 @@ loop-less c = omega arith
 
 loop-again : tie.Need-loop-again Inv-loop μ-loop
 loop-again c =
-    let at = c .before .before .before .before .before .before .before .loop in
+    let test = c .before .before .before .before .before .before in
+    let at = test .before .loop in
+    let a = test .before .before .before .before .args in
     let t = c .before .before .before .take-byte in
-    head-turn (c .before .before .before .before .before .before .before .before .before .before .args .kind) (now (c .before .before .before .before .before .before .before .before .before .before .args .bytes)) (at .array) (at .reader) (at .broken) (at .whole) (at .i) (at .inv) (c .before .before .before .before .before .before .loop-test .taken)
+    head-turn (a .kind) (now (a .bytes)) (at .array) (at .reader) (at .broken) (at .whole) (at .i) (at .inv) (test .loop-test .taken)
     _ (t .result) (t .ensures .0) (t .ensures .1) (omega (arith, t .ok)) _ _ (c .before .broken-in .ensures) (c .whole-in .ensures)
 
 returns : tie.Need-returns Inv-loop μ-loop

@@ -72,10 +72,10 @@ take-behind-requires c κs =
 
 returns-4 : tie.Need-returns-4
 returns-4 c =
-    let s = c .before .before .before .before .before .before .before .before .before in
-    let a = s .args in
+    let other = c .before .before .before .before .before in
+    let a = other .before .before .before .before .args in
     reads (now (a .array)) _ _ _ _
-    (read-other (a .kind) (placeOf (a .reader) (now (a .array))) (a .b) (c .before .before .before .before .before .if1 .left)
+    (read-other (a .kind) (placeOf (a .reader) (now (a .array))) (a .b) (other .if1 .left)
     ∙ ap (λ p. readOther (a .kind) p (a .b)) (place-in (a .reader) (now (a .array)) (not-false _ (c .before .before .before .before .if2 .left))))
     (c .take-behind .ensures .0) (c .take-behind .ensures .1)
 

@@ -1,3 +1,4 @@
+-- The loop's invariant: the sum so far with that of the rest is the whole sum, up to FFFFh.
 use Prim.Native.Nat.{_+_, _-_, _%_, _≤_, _<_}
 use mathlib.Core.Path.{_≡_, _∙_}
 use native.Mathlib.Omega.{arith}

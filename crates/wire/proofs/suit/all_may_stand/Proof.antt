@@ -1,3 +1,4 @@
+-- The loop's invariant: i bytes passed, so that all pass where the rest does.
 use Prim.Native.Nat.{_≤_, _-_}
 use mathlib.Core.Path.{_≡_, refl, sym, _∙_}
 use native.Mathlib.Omega.{arith}
