@@ -15,13 +15,13 @@ use Rattle.reader.proofs.Running.{kept-length}
 use Rattle.device.proofs.Working.{front-stands}
 use Rattle.till.specs.Turns as till
 use Rattle.till.specs.Fields as fields
-use Rattle.till.specs.Promises.{Bytes}
+use Rattle.attempts.specs.Promises.{Bytes}
 use Rattle.till.specs.Words.{numberOf}
 use Rattle.till.specs.declared.Till.{Till}
 use Rattle.till.specs.declared.Word.the-variants.{TooShort, NotSent}
-use Rattle.till.proofs.Following.{fields-follow}
+use Rattle.attempts.proofs.Following.{fields-follow}
 use Rattle.till.proofs.Outer.{read-same, framed-same}
-use Rattle.till.proofs.Seeing.{failsBy}
+use Rattle.attempts.proofs.Seeing.{failsBy}
 use Rattle.promises.specs.AtTill.{fromLine}
 use Rattle.promises.specs.Ends.{ofTill}
 use Rattle.promises.specs.Coded.{Machines, turnAfter, sentAfter, answerAfter, givenIn, TillResult}

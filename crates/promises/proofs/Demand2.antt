@@ -28,10 +28,10 @@ use Rattle.line.specs.Turns.{State, Session}
 use Rattle.device.specs.Carrying.{deedFor, answerTo, carry}
 use Rattle.device.specs.Recording.{recording}
 use Rattle.till.specs.Turns as turns
-use Rattle.till.specs.History.{history, heardBytes, words, behind}
-use Rattle.till.specs.History as till
+use Rattle.attempts.specs.History.{history, heardBytes, words, behind}
+use Rattle.attempts.specs.History as till
 use Rattle.till.specs.declared.Word.the-variants.{Waiting, Answered}
-use Rattle.till.proofs.Frames.{answer-heard}
+use Rattle.attempts.proofs.Frames.{answer-heard}
 use Rattle.promises.specs.Coded.{Machines, Fresh, HeardThrough}
 use Rattle.promises.specs.Demand2.{LentByte, alwaysLent, turnBy, turnsOf, deviceAfter, allGiven, allCarried, dataIn, freshDevice, entriesOf, booksAfter, cashIn}
 use Rattle.promises.proofs.Through.{the-calls-are-the-recording}

@@ -26,9 +26,9 @@ use Rattle.line.proofs.Delivered.{carries-out-that-very-list, brings-for-each-t
 use Rattle.line.proofs.AtMostOnce.{carries-out-what-is-heard, carries-out-those-whole}
 use Rattle.line.proofs.PartOf.{carries-out-a-part}
 use Rattle.line.proofs.Ended.{ended-by-the-next}
-use Rattle.till.specs.History.{Lent, seqOf}
-use Rattle.till.specs.Handed.{Handed, handedIn, AllInPlace}
-use Rattle.till.proofs.Handing.{seqs-differ, frames-are-tries}
+use Rattle.attempts.specs.History.{Lent, seqOf}
+use Rattle.attempts.specs.Handed.{Handed, handedIn, AllInPlace}
+use Rattle.attempts.proofs.Handing.{seqs-differ, frames-are-tries}
 use Rattle.device.specs.Carrying.{carry}
 use Rattle.device.specs.Recording.{recording, listing, toldIn}
 use Rattle.promises.specs.Coded.{Machines, Fresh, HeardThrough}

@@ -15,8 +15,8 @@ use Rattle.reader.proofs.Holding.{Underway, underway-read}
 use Rattle.reader.proofs.RoundTrip.{frame-size}
 use Rattle.till.specs.Turns as till
 use Rattle.till.specs.declared.Word.the-variants.{TooShort, NotSent}
-use Rattle.till.proofs.Answers.{answers-heard}
-use Rattle.till.proofs.Seeing.{failsBy, goes-place}
+use Rattle.attempts.proofs.Answers.{answers-heard}
+use Rattle.attempts.proofs.Seeing.{failsBy, goes-place}
 
 -- a whole answer heard: at most 200 bytes of data and six of status
 abbrev Brief : Event → Type 0

@@ -13,10 +13,10 @@ use Rattle.wire.specs.Replies.{room}
 use Rattle.wire.specs.declared.Kind.the-variants.{Command, Answer}
 use Rattle.reader.specs.Reading.{Place, outside, Event, nothing, brokenFrame, heard, read, Run, run}
 use Rattle.reader.proofs.Walking.{run-append}
 use Rattle.till.specs.Turns.{Pending, idle, waits, State, freshState, seqAfter, Happening, command, byte, timeout, Turn, stays, gives, sent, Meaning, failed, goesOn, answers, readAs, nakOutside, byteMeans, failsTry, onMeaning, onCommand, takes}
-use Rattle.till.specs.History.{Lent, says, behind, seqOf, Open, none, one, Seen, nothingSeen, noted, watch, watched}
-use Rattle.till.specs.Promises.{Tried}
+use Rattle.attempts.specs.History.{Lent, says, behind, seqOf, Open, none, one, Seen, nothingSeen, noted, watch, watched}
+use Rattle.attempts.specs.Promises.{Tried}
 use Rattle.till.specs.declared.Word.the-variants.{SendAgain, Unfinished, TooShort, NotSent}
 
 -- the state that was seen
 abbrev pub pendingSeen : Open → Pending

@@ -10,11 +10,11 @@ use Rattle.wire.specs.Frame.{commandOf, frame, sendable}
 use Rattle.wire.specs.Replies.{room}
 use Rattle.wire.specs.declared.Kind.the-variants.{Command}
 use Rattle.reader.specs.Reading.{Place, outside}
 use Rattle.till.specs.Turns.{Pending, idle, waits, State, freshState, seqAfter, Happening, command, byte, timeout, Turn, stays, sent, Meaning, failed, goesOn, answers, byteMeans, onMeaning, onCommand, takes}
-use Rattle.till.specs.History.{Lent, says, behind, took, marksOf, marks, ends, failure, failureOf, failures}
-use Rattle.till.specs.Fifth.{FifthFails, restWord, restsUntilTaken}
+use Rattle.attempts.specs.History.{Lent, says, behind, took, marksOf, marks, ends, failure, failureOf, failures}
+use Rattle.attempts.specs.Fifth.{FifthFails, restWord, restsUntilTaken}
 use Rattle.till.specs.declared.Word.the-variants.{Waiting, Unfinished, TooShort, NotSent}
-use Rattle.till.proofs.Tries.{waits-through}
+use Rattle.attempts.proofs.Tries.{waits-through}
 
 behind-append : (xs ys : List Lent) (s : State) → behind s (xs ++ ys) ≡ behind (behind s xs) ys
 behind-append [] ys s = refl

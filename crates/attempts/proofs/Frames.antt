@@ -17,10 +17,10 @@ use Rattle.reader.specs.Reading.{Place, outside, inside, nothing, heard, read, 
 use Rattle.reader.proofs.Walking.{run-first}
 use Rattle.reader.proofs.Steps.{read-start}
 use Rattle.reader.proofs.RoundTrip.{Parts, parts, read-what-was-built}
 use Rattle.till.specs.Turns.{Pending, idle, waits, State, byte, Turn, stays, gives, failed, readAs, nakOutside, onMeaning}
-use Rattle.till.specs.History.{says, behind, history, heardBytes, words, putsOf}
+use Rattle.attempts.specs.History.{says, behind, history, heardBytes, words, putsOf}
 use Rattle.till.specs.declared.Word.the-variants.{Waiting, Answered}
-use Rattle.till.proofs.Answers.{heard-answers}
+use Rattle.attempts.proofs.Answers.{heard-answers}
 
 -- no byte of an answer's frame is NAK
 abbrev No-nak : List ℕ → Type 0

@@ -12,12 +12,12 @@ use Rattle.wire.specs.declared.Kind.the-variants.{Command, Answer}
 use Rattle.reader.specs.Reading.{outside, run}
 use Rattle.reader.proofs.RoundTrip.{parts, frame-size}
 use Rattle.reader.proofs.History.{built-is-all-that-is-read}
 use Rattle.till.specs.Turns.{idle, State, freshState, Happening, command, byte, timeout, stays, sent, Meaning, failed, goesOn, answers, byteMeans, failsTry, onMeaning, onCommand, takes}
-use Rattle.till.specs.History.{Lent, says, behind, seqOf, Open, none, one, Seen, watched}
-use Rattle.till.specs.Promises.{Tried}
+use Rattle.attempts.specs.History.{Lent, says, behind, seqOf, Open, none, one, Seen, watched}
+use Rattle.attempts.specs.Promises.{Tried}
 use Rattle.till.specs.declared.Word.the-variants.{TooShort, NotSent}
-use Rattle.till.proofs.Answers.{answers-heard}
-use Rattle.till.proofs.Seeing.{stateSeen, Sound, state-seen, sound-seen, failsBy}
+use Rattle.attempts.proofs.Answers.{answers-heard}
+use Rattle.attempts.proofs.Seeing.{stateSeen, Sound, state-seen, sound-seen, failsBy}
 
 failed-few : (next seq code : ℕ) (bytes : List ℕ) (tries : ℕ) → length bytes ≤ 210 → length (failsTry next seq code bytes tries .puts) ≤ 210
 failed-few next seq code bytes tries few = go (ltb tries 5)

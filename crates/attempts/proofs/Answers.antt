@@ -15,12 +15,12 @@ use Rattle.reader.specs.Reading.{Place, outside, Event, nothing, brokenFrame, h
 use Rattle.reader.proofs.Walking.{run-append}
 use Rattle.reader.proofs.RoundTrip.{read-what-was-built}
 use Rattle.reader.proofs.History.{built-is-all-that-is-read}
 use Rattle.till.specs.Turns.{idle, State, freshState, Happening, command, byte, timeout, Turn, stays, gives, Meaning, failed, goesOn, answers, readAs, nakOutside, byteMeans, failsTry, onMeaning, onCommand, takes, sent}
-use Rattle.till.specs.History.{Lent, says, behind, seqOf, Open, none, one, Seen, watched}
-use Rattle.till.specs.Promises.{Came}
+use Rattle.attempts.specs.History.{Lent, says, behind, seqOf, Open, none, one, Seen, watched}
+use Rattle.attempts.specs.Promises.{Came}
 use Rattle.till.specs.declared.Word.the-variants.{Idle, Answered, TooShort, NotSent}
 use Rattle.till.proofs.Hearing.{heard-from}
-use Rattle.till.proofs.Seeing.{stateSeen, state-seen, failsBy}
+use Rattle.attempts.proofs.Seeing.{stateSeen, state-seen, failsBy}
 
 -- a byte that answers was heard as a whole answer that matches
 pub record Matches (seq code : ℕ) (p : Place) (b : ℕ) (a : Message) : Type 0 where

@@ -15,19 +15,19 @@ use Rattle.reader.specs.Fields.{placeOf, readerOf, keptIn}
 use Rattle.reader.specs.declared.Reader.{Reader}
 use Rattle.reader.proofs.RoundTrip.{frame-size}
 use Rattle.reader.proofs.Running.{bytesOf, place-back, read-room}
 use Rattle.till.specs.Words.{numberOf}
 use Rattle.till.specs.Turns.{Pending, idle, waits, State, freshState, Happening, command, byte, timeout, Turn, stays, sent, Meaning, failed, goesOn, answers, byteMeans, onMeaning}
 use Rattle.till.specs.Fields.{pendingOf, stateOf, tillOf, framed, heldIn, refused, saidOf, turnOf}
-use Rattle.till.specs.Promises.{Bytes}
+use Rattle.attempts.specs.Promises.{Bytes}
 use Rattle.till.specs.Private.{failedBy, heardBy, sentBy}
 use Rattle.till.specs.declared.Attempt.{Attempt}
 use Rattle.till.specs.declared.Slot.{Slot}
 use Rattle.till.specs.declared.Slot.the-variants.{Free, Held}
 use Rattle.till.specs.declared.Till.{Till}
 use Rattle.till.specs.declared.Word.{Word}
 use Rattle.till.specs.declared.Word.the-variants.{Idle, TooShort, NotSent}
 use Rattle.till.proofs.Outer.{read-same, framed-same, not-refused, too-short, byte-idle, byte-held, timeout-idle, timeout-held, command-free, command-held}
-use Rattle.till.proofs.Seeing.{failsBy, goes-place}
+use Rattle.attempts.proofs.Seeing.{failsBy, goes-place}
 
 -- what stands in the arrays has room there
 abbrev Roomy : Pending → Type 0

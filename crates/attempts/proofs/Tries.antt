@@ -16,12 +16,12 @@ use Rattle.wire.specs.declared.Kind.the-variants.{Command, Answer}
 use Rattle.wire.specs.declared.Sort.the-variants.{Mark as SeqOrCmd, Data}
 use Rattle.wire.proofs.Building.{sendable-command}
 use Rattle.reader.specs.Reading.{Place, outside, run}
 use Rattle.till.specs.Turns.{Pending, idle, waits, State, freshState, Happening, command, byte, timeout, Turn, stays, sent, Meaning, failed, goesOn, answers, byteMeans, failsTry, onMeaning, onCommand, takes, hears}
-use Rattle.till.specs.History.{Lent, says, behind, seqOf, Open, none, one, Seen, nothingSeen, onWord, noted, watch, watched, Mark, ended, marksOf, marks, alternate, ends, failure, failureOf, failures}
-use Rattle.till.specs.Promises.{Tried, GivenUp}
+use Rattle.attempts.specs.History.{Lent, says, behind, seqOf, Open, none, one, Seen, nothingSeen, onWord, noted, watch, watched, Mark, ended, marksOf, marks, alternate, ends, failure, failureOf, failures}
+use Rattle.attempts.specs.Promises.{Tried, GivenUp}
 use Rattle.till.specs.declared.Word.the-variants.{Idle, Answered, Unfinished, TooShort, NotSent}
-use Rattle.till.proofs.Answers.{none-idle}
-use Rattle.till.proofs.Seeing.{stateSeen, Sound, state-seen, sound-seen, failsBy}
+use Rattle.attempts.proofs.Answers.{none-idle}
+use Rattle.attempts.proofs.Seeing.{stateSeen, Sound, state-seen, sound-seen, failsBy}
 
 -- at every moment the frames handed out for the command that waits are its own, one to five
 pub frames-same : (ls : List Lent) (m : Message) (frames : List (List ℕ)) (since : List ℕ) → watched ls .last ≡ one m frames since → Tried m frames
