@@ -120,14 +120,14 @@ ends (ended ∷ ms) = true
 -- PROTOCOL 7.5: the failed tries among the events, whatever was said of them: those that are taken while a command waits, and mean one
 abbrev pub failure : Meaning → ℕ
 failure failed = 1
-failure (goesOn place) = 0
+failure (goesOn ear) = 0
 failure (answers m) = 0
 
 abbrev pub failureOf : Pending → Happening → ℕ
 failureOf idle h = 0
-failureOf (waits seq code bytes tries place) (command sentCode content) = 0
-failureOf (waits seq code bytes tries place) (byte b) = failure (byteMeans seq code place b)
-failureOf (waits seq code bytes tries place) timeout = 1
+failureOf (waits seq code bytes tries ear) (command sentCode content) = 0
+failureOf (waits seq code bytes tries ear) (byte b) = failure (byteMeans seq code ear b)
+failureOf (waits seq code bytes tries ear) timeout = 1
 
 abbrev pub failures : State → List Lent → ℕ
 failures s [] = 0

@@ -48,4 +48,4 @@ pub record Came (seen : Seen) (l : Lent) : Type 0 where
 -- a command's fields are bytes: their types say so
 abbrev pub Bytes : Slot → Type 0
 Bytes Free = Unit {0}
-Bytes (Held a) = (a .count < 256) × (a .reader .count < 256)
+Bytes (Held a) = (a .count < 256) × (a .ear .reader .count < 256)

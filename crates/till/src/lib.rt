@@ -11,11 +11,16 @@ ghost use lib.Dec.{eqb};
 ghost use lib.ListN.{length, take, drop};
 ghost use lib.Seq.{sets};
 ghost use Rattle.till.specs.Words.{numberOf, countOf};
-ghost use Rattle.till.specs.Turns.{command, byte, timeout, freshState, seqAfter};
-ghost use Rattle.till.specs.Fields.{tillOf, framed, heldIn, saidOf, turnOf};
+ghost use Rattle.till.specs.Turns.{command, byte, timeout, freshEar, freshState, seqAfter};
+ghost use Rattle.till.specs.Fields.{earOf, tillOf, framed, heldIn, saidOf, turnOf};
 ghost use Rattle.till.specs.Private.{spoken, failedBy, heardBy, sentBy};
 ghost use Rattle.till.specs.declared.Slot.the-variants.{Free, Held};
 ghost use Rattle.till.specs.declared.Word.the-variants.{Waiting, Answered, NotSent};
+
+// What the try under way has heard. The answer's bytes so far stand at the front of a lent array.
+pub struct Ear {
+    pub reader: Reader,
+}
 
 // A command that waits. Its frame is the first `count` bytes of a lent array.
 pub struct Attempt {
@@ -23,7 +28,7 @@ pub struct Attempt {
     pub code: u8,
     pub tries: u8,
     pub count: u8,
-    pub reader: Reader,
+    pub ear: Ear,
 }
 
 // No command waits, or one does.
@@ -133,7 +138,7 @@ fn send(next: u8, frame: &mut [u8; 256], code: u8, content: &[u8], buf: &mut [u8
                 code,
                 tries: 1,
                 count,
-                reader: reader::fresh(),
+                ear: listen(),
             };
             held(seq_after(next), first, Word::Waiting(n))
         }
@@ -162,6 +167,15 @@ fn free(next: u8, word: Word) -> Said
             slot: Slot::Free,
         },
         word,
+    }
+}
+
+// A try that begins has heard nothing.
+fn listen() -> Ear
+    ensures { λ r. ⌜ r ≡ earOf freshEar ⌝ }
+{
+    Ear {
+        reader: reader::fresh(),
     }
 }
 
@@ -212,12 +226,14 @@ fn hear(next: u8, a: Attempt, frame: &[u8], answer: &mut [u8; 256], b: u8, buf: 
     ensures { λ r. ⌜ now (answer .exit) ≡ heldIn (now (answer .entry)) (heardBy next a (now (frame .entry)) (now (answer .entry)) b .state .pending) ⌝ }
     ensures { λ r. ⌜ now (buf .exit) ≡ sets (now (buf .entry)) 0 (heardBy next a (now (frame .entry)) (now (answer .entry)) b .puts) ⌝ }
 {
-    let reader = a.reader;
+    let ear = a.ear;
+    let reader = ear.reader;
     if nak_outside(reader.inside, b) {
         return failed_try(next, a, frame, buf);
     }
     let taken = reader::take_byte(Kind::Answer, reader, answer, b);
-    let after = taken.reader;
+    let reader = taken.reader;
+    let after = Ear { reader };
     let heard = taken.heard;
     match heard {
         Heard::Nothing => goes_on(next, a, after),
@@ -249,16 +265,16 @@ fn nak_outside(within: bool, b: u8) -> bool
 }
 
 // One byte more, of an answer or beside one. That the count is a byte is for its caller.
-fn goes_on(next: u8, a: Attempt, reader: Reader) -> Said
+fn goes_on(next: u8, a: Attempt, ear: Ear) -> Said
     ensures { λ r. ⌜ a .count < 256 ⌝ }
-    ensures { λ r. ⌜ r ≡ record { till = record { next = next; slot = Held (record { seq = a .seq; code = a .code; tries = a .tries; count = a .count; reader = reader }) }; word = Waiting 0 } ⌝ }
+    ensures { λ r. ⌜ r ≡ record { till = record { next = next; slot = Held (record { seq = a .seq; code = a .code; tries = a .tries; count = a .count; ear = ear }) }; word = Waiting 0 } ⌝ }
 {
     let more = Attempt {
         seq: a.seq,
         code: a.code,
         tries: a.tries,
         count: a.count,
-        reader,
+        ear,
     };
     held(next, more, Word::Waiting(0))
 }
@@ -292,7 +308,7 @@ fn failed_try(next: u8, a: Attempt, frame: &[u8], buf: &mut [u8]) -> Said
             code: a.code,
             tries: tries + 1,
             count,
-            reader: reader::fresh(),
+            ear: listen(),
         };
         return held(next, again, Word::SendAgain(count as usize));
     }
