@@ -5,7 +5,7 @@ use mathlib.Core.List.{List}
 use Prim.Native.Nat.{ℕ, _≤_, _<_}
 use lib.ListN.{length}
 use borrow.Author.Tests.{lt-leb, le-leb}
-use Rattle.figures.specs.Parts.{has, upTo, past}
+use Rattle.text.specs.Parts.{has, upTo, past}
 use Rattle.figures.specs.Numbers.{fieldOf}
 use Rattle.figures.specs.declared.Number.the-variants.{Is, NotOne}
 use Rattle.kinds.specs.Fields.{comma}

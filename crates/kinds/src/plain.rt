@@ -27,13 +27,13 @@ pub fn text(s: &[u8]) -> Parsed
 pub fn open_receipt(s: &[u8]) -> Parsed
     ensures { λ r. ⌜ r ≡ openOf (now (s .entry)) ⌝ }
 {
-    let first = figures::find(s, b',');
+    let first = text::find(s, b',');
     if first == s.len() {
         return Parsed::Syntax;
     }
     let next = first + 1;
     let rest = &s[next..];
-    let second = figures::find(rest, b',');
+    let second = text::find(rest, b',');
     if second == rest.len() {
         return Parsed::Syntax;
     }

@@ -1,5 +1,5 @@
 // The texts before a Tab, and the text of 42: each is handed on as a part of the lent data.
-use figures::find;
+use text::find;
 ghost use mathlib.Core.Path.{_≡_};
 ghost use Rattle.lines.specs.Texts.{isText, areTexts, restOf, onlyLine, firstLine, secondLine};
 

@@ -3,7 +3,7 @@ use mathlib.Core.Path.{_∙_}
 use Prim.Native.Nat.{_+_, _-_}
 use native.Mathlib.Omega.{arith}
 use denote.Ref.{now}
-use Rattle.figures.proofs.Cutting.{cut-length}
+use Rattle.text.proofs.Cutting.{cut-length}
 use Rattle.kinds.proofs.Forms.{found-ne, missed-eq, at-most, front, behind}
 use Rattle.kinds.specs.Fields.{comma}
 use Rattle.kinds.proofs.Openings.{no-comma, one-comma, two-commas}
