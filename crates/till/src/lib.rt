@@ -17,6 +17,20 @@ ghost use Rattle.till.specs.Private.{spoken, failedBy, heardBy, sentBy};
 ghost use Rattle.till.specs.declared.Slot.the-variants.{Free, Held};
 ghost use Rattle.till.specs.declared.Word.the-variants.{Waiting, Answered, NotSent};
 
+// PROTOCOL 7.6: as often as a frame is handed out at most.
+pub const MOST_TRIES: u8 = 5;
+
+// PROTOCOL 2.4: as many bytes as the caller lends at least: the longest frame that the till end builds.
+pub const LEAST_LENT: usize = 210;
+
+// PROTOCOL 1.2: any frame has room here, of a command or of an answer, and its bytes are counted in one byte.
+pub const FRAME_ROOM: usize = 256;
+
+// PROTOCOL 7.3: the SEQ of the first command, and the one behind which it comes again.
+const FIRST_SEQ: u8 = 0x20;
+
+const LAST_SEQ: u8 = 0xFF;
+
 // What the try under way has heard. The answer's bytes so far stand at the front of a lent array.
 pub struct Ear {
     pub reader: Reader,
@@ -59,11 +73,12 @@ pub struct Said {
     pub word: Word,
 }
 
+// A till end with no command waiting.
 pub fn fresh() -> Till
     ensures { λ r. ⌜ r ≡ tillOf freshState ⌝ }
 {
     Till {
-        next: 0x20,
+        next: FIRST_SEQ,
         slot: Slot::Free,
     }
 }
@@ -99,12 +114,18 @@ pub fn count(word: Word) -> usize
 }
 
 // A command to be sent. The answer's array is not lent: nothing that it holds plays a part.
-pub fn command(till: Till, frame: &mut [u8; 256], code: u8, content: &[u8], buf: &mut [u8]) -> Said
+pub fn command(
+    till: Till,
+    frame: &mut [u8; FRAME_ROOM],
+    code: u8,
+    content: &[u8],
+    buf: &mut [u8],
+) -> Said
     ensures { λ r. ⌜ ((answer : List ℕ) → r ≡ saidOf till (turnOf till (now (frame .entry)) answer (now (buf .entry)) (command code (now (content .entry))))) ⌝ }
     ensures { λ r. ⌜ ((answer : List ℕ) → now (frame .exit) ≡ framed (now (frame .entry)) (turnOf till (now (frame .entry)) answer (now (buf .entry)) (command code (now (content .entry))) .state .pending)) ⌝ }
     ensures { λ r. ⌜ ((answer : List ℕ) → now (buf .exit) ≡ sets (now (buf .entry)) 0 (turnOf till (now (frame .entry)) answer (now (buf .entry)) (command code (now (content .entry))) .puts)) ⌝ }
 {
-    if buf.len() < 210 {
+    if buf.len() < LEAST_LENT {
         return Said {
             till,
             word: Word::TooShort,
@@ -121,7 +142,7 @@ pub fn command(till: Till, frame: &mut [u8; 256], code: u8, content: &[u8], buf:
 }
 
 // The frame is built in its own array, and handed out from there at every try.
-fn send(next: u8, frame: &mut [u8; 256], code: u8, content: &[u8], buf: &mut [u8]) -> Said
+fn send(next: u8, frame: &mut [u8; FRAME_ROOM], code: u8, content: &[u8], buf: &mut [u8]) -> Said
     ensures { λ r. ⌜ r ≡ spoken (sentBy next code (now (content .entry))) ⌝ }
     ensures { λ r. ⌜ now (frame .exit) ≡ framed (now (frame .entry)) (sentBy next code (now (content .entry)) .state .pending) ⌝ }
     ensures { λ r. ⌜ now (buf .exit) ≡ sets (now (buf .entry)) 0 (sentBy next code (now (content .entry)) .puts) ⌝ }
@@ -145,7 +166,7 @@ fn send(next: u8, frame: &mut [u8; 256], code: u8, content: &[u8], buf: &mut [u8
     }
 }
 
-// What is said where a command waits, and where none does.
+// What is said where a command waits.
 fn held(next: u8, a: Attempt, word: Word) -> Said
     ensures { λ r. ⌜ r ≡ record { till = record { next = next; slot = Held a }; word = word } ⌝ }
 {
@@ -158,6 +179,7 @@ fn held(next: u8, a: Attempt, word: Word) -> Said
     }
 }
 
+// What is said where no command waits.
 fn free(next: u8, word: Word) -> Said
     ensures { λ r. ⌜ r ≡ record { till = record { next = next; slot = Free }; word = word } ⌝ }
 {
@@ -179,11 +201,12 @@ fn listen() -> Ear
     }
 }
 
+// SEQ goes up by one and round.
 fn seq_after(seq: u8) -> u8
     ensures { λ r. ⌜ r ≡ seqAfter seq ⌝ }
 {
-    if seq == 0xFF {
-        return 0x20;
+    if seq == LAST_SEQ {
+        return FIRST_SEQ;
     }
     seq + 1
 }
@@ -198,12 +221,18 @@ fn hand_out(frame: &[u8], count: u8, buf: &mut [u8])
 }
 
 // A byte from the line.
-pub fn byte(till: Till, frame: &[u8; 256], answer: &mut [u8; 256], b: u8, buf: &mut [u8]) -> Said
+pub fn byte(
+    till: Till,
+    frame: &[u8; FRAME_ROOM],
+    answer: &mut [u8; FRAME_ROOM],
+    b: u8,
+    buf: &mut [u8],
+) -> Said
     ensures { λ r. ⌜ r ≡ saidOf till (turnOf till (now (frame .entry)) (now (answer .entry)) (now (buf .entry)) (byte b)) ⌝ }
     ensures { λ r. ⌜ now (answer .exit) ≡ heldIn (now (answer .entry)) (turnOf till (now (frame .entry)) (now (answer .entry)) (now (buf .entry)) (byte b) .state .pending) ⌝ }
     ensures { λ r. ⌜ now (buf .exit) ≡ sets (now (buf .entry)) 0 (turnOf till (now (frame .entry)) (now (answer .entry)) (now (buf .entry)) (byte b) .puts) ⌝ }
 {
-    if buf.len() < 210 {
+    if buf.len() < LEAST_LENT {
         return Said {
             till,
             word: Word::TooShort,
@@ -220,7 +249,14 @@ pub fn byte(till: Till, frame: &[u8; 256], answer: &mut [u8; 256], b: u8, buf: &
 }
 
 // A byte to a command that waits.
-fn hear(next: u8, a: Attempt, frame: &[u8], answer: &mut [u8; 256], b: u8, buf: &mut [u8]) -> Said
+fn hear(
+    next: u8,
+    a: Attempt,
+    frame: &[u8],
+    answer: &mut [u8; FRAME_ROOM],
+    b: u8,
+    buf: &mut [u8],
+) -> Said
     requires { ⌜ length (now frame) ≡ 256 ⌝ }
     ensures { λ r. ⌜ r ≡ spoken (heardBy next a (now (frame .entry)) (now (answer .entry)) b) ⌝ }
     ensures { λ r. ⌜ now (answer .exit) ≡ heldIn (now (answer .entry)) (heardBy next a (now (frame .entry)) (now (answer .entry)) b .state .pending) ⌝ }
@@ -255,6 +291,7 @@ fn hear(next: u8, a: Attempt, frame: &[u8], answer: &mut [u8; 256], b: u8, buf: 
     }
 }
 
+// NAK, outside an answer.
 fn nak_outside(within: bool, b: u8) -> bool
     ensures { λ r. ⌜ r ≡ cond within false (eqb b 0x15) ⌝ }
 {
@@ -301,7 +338,7 @@ fn failed_try(next: u8, a: Attempt, frame: &[u8], buf: &mut [u8]) -> Said
 {
     let tries = a.tries;
     let count = a.count;
-    if tries < 5 {
+    if tries < MOST_TRIES {
         hand_out(frame, count, buf);
         let again = Attempt {
             seq: a.seq,
@@ -316,11 +353,11 @@ fn failed_try(next: u8, a: Attempt, frame: &[u8], buf: &mut [u8]) -> Said
 }
 
 // No byte in time. The answer's array plays no part here either: a failed try leaves it.
-pub fn timeout(till: Till, frame: &[u8; 256], buf: &mut [u8]) -> Said
+pub fn timeout(till: Till, frame: &[u8; FRAME_ROOM], buf: &mut [u8]) -> Said
     ensures { λ r. ⌜ ((answer : List ℕ) → r ≡ saidOf till (turnOf till (now (frame .entry)) answer (now (buf .entry)) timeout)) ⌝ }
     ensures { λ r. ⌜ ((answer : List ℕ) → now (buf .exit) ≡ sets (now (buf .entry)) 0 (turnOf till (now (frame .entry)) answer (now (buf .entry)) timeout .puts)) ⌝ }
 {
-    if buf.len() < 210 {
+    if buf.len() < LEAST_LENT {
         return Said {
             till,
             word: Word::TooShort,

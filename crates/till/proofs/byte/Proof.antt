@@ -46,10 +46,11 @@ same-length c = search needs
 
 returns-3 : tie.Need-returns-3
 returns-3 c =
-    let a = c .before .before .before .before .before .before .before .before .before .before .before .args in
+    let known = c .before .before .before .before .before .before .before in
+    let a = known .before .before .before .before .args in
     let h = c .before .before .hear in
-    let x = c .before .before .before .before .before .before .before .slot .given .0 .0 in
-    let e = byte-held (a .till) (now (a .frame)) (now (a .answer)) (now (a .buf)) (c .before .before .before .before .before .before .before .before .before .if1 .left) (a .b) x (c .before .before .before .before .before .before .before .slot .given .1) in (
+    let x = known .slot .given .0 .0 in
+    let e = byte-held (a .till) (now (a .frame)) (now (a .answer)) (now (a .buf)) (known .before .before .if1 .left) (a .b) x (known .slot .given .1) in (
       says (a .till) (now (a .buf)) (now (a .buf)) (h .result) _ _ e
           (h .ensures .0 ∙ said-on (a .till) (a .till .next) (x .seq) (x .code) (take (x .count) (now (a .frame))) (x .tries) (byteMeans (x .seq) (x .code) (earIn (x .ear) (now (a .answer))) (a .b))),
       (
