@@ -20,7 +20,8 @@ use Rattle.attempts.specs.History.{Lent, says, behind, seqOf, Open, none
 use Rattle.attempts.specs.Promises.{Came}
 use Rattle.till.specs.declared.Word.the-variants.{Idle, Answered, TooShort, NotSent}
 use Rattle.till.proofs.Hearing.{heard-from}
-use Rattle.attempts.proofs.Seeing.{earSeen, stateSeen, state-seen, failsBy}
+use Rattle.till.proofs.Turning.{failsBy}
+use Rattle.attempts.proofs.Seeing.{earSeen, stateSeen, state-seen}
 
 -- a byte that answers was heard as a whole answer that matches
 pub record Matches (seq code : ℕ) (ear : Ear) (b : ℕ) (a : Message) : Type 0 where

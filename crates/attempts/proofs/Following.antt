@@ -27,7 +27,8 @@ use Rattle.till.specs.declared.Till.{Till}
 use Rattle.till.specs.declared.Word.{Word}
 use Rattle.till.specs.declared.Word.the-variants.{Idle, TooShort, NotSent}
 use Rattle.till.proofs.Outer.{read-same, framed-same, not-refused, too-short, byte-idle, byte-held, timeout-idle, timeout-held, command-free, command-held}
-use Rattle.attempts.proofs.Seeing.{failsBy, goes-on}
+use Rattle.till.proofs.Turning.{failsBy}
+use Rattle.attempts.proofs.Seeing.{goes-on}
 
 -- what stands in the arrays has room there
 abbrev Roomy : Pending → Type 0

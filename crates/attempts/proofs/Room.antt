@@ -16,7 +16,8 @@ use Rattle.attempts.specs.History.{Lent, says, behind, seqOf, Open, none
 use Rattle.attempts.specs.Promises.{Tried}
 use Rattle.till.specs.declared.Word.the-variants.{TooShort, NotSent}
 use Rattle.attempts.proofs.Answers.{answers-heard}
-use Rattle.attempts.proofs.Seeing.{earSeen, stateSeen, Sound, state-seen, sound-seen, failsBy}
+use Rattle.till.proofs.Turning.{failsBy}
+use Rattle.attempts.proofs.Seeing.{earSeen, stateSeen, Sound, state-seen, sound-seen}
 
 failed-few : (next seq code : ℕ) (bytes : List ℕ) (tries : ℕ) → length bytes ≤ 210 → length (failsTry next seq code bytes tries .puts) ≤ 210
 failed-few next seq code bytes tries few = go (ltb tries 5)

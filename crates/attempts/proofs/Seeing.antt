@@ -13,10 +13,11 @@ use Rattle.wire.specs.Replies.{room}
 use Rattle.wire.specs.declared.Kind.the-variants.{Command, Answer}
 use Rattle.reader.specs.Reading.{outside, Event, nothing, brokenFrame, heard, read, Run, run}
 use Rattle.reader.proofs.Walking.{run-append}
-use Rattle.till.specs.Turns.{Ear, freshEar, earAfter, Pending, idle, waits, State, freshState, seqAfter, Happening, command, byte, timeout, Turn, stays, gives, sent, Meaning, failed, goesOn, answers, readAs, nakOutside, byteMeans, failsTry, onMeaning, onCommand, takes}
+use Rattle.till.specs.Turns.{Ear, freshEar, earAfter, Pending, idle, waits, State, freshState, seqAfter, Happening, command, byte, timeout, Turn, stays, sent, Meaning, failed, goesOn, answers, readAs, nakOutside, byteMeans, failsTry, onMeaning, onCommand, takes}
 use Rattle.attempts.specs.History.{Lent, says, behind, seqOf, Open, none, one, Seen, nothingSeen, noted, watch, watched}
 use Rattle.attempts.specs.Promises.{Tried}
-use Rattle.till.specs.declared.Word.the-variants.{SendAgain, Unfinished, TooShort, NotSent}
+use Rattle.till.specs.declared.Word.the-variants.{TooShort, NotSent}
+use Rattle.till.proofs.Turning.{failsBy}
 
 -- what the last try has heard, by the bytes since its frame was handed out
 abbrev pub earSeen : List ℕ → Ear
@@ -68,12 +69,6 @@ goes-on seq code ear b q = go (nakOutside (ear .place) b) (read Answer (ear .pla
 -- one byte more of a run
 ear-more : (bytes : List ℕ) (b : ℕ) → earSeen (bytes ++ b ∷ []) ≡ earAfter (earSeen bytes) b
 ear-more bytes b = ap (λ (r : Run). record { place = r .place }) (run-append Answer outside bytes (b ∷ []))
-
--- a failed try, by its test
-abbrev pub failsBy : (next seq code : ℕ) → List ℕ → ℕ → Bool → Turn
-failsBy next seq code bytes tries s =
-    cond s (gives SendAgain bytes (record { next = next; pending = waits seq code bytes (tries + 1) freshEar }))
-    (stays (Unfinished tries) (record { next = next; pending = idle }))
 
 -- what a turn leaves is what is seen of it
 abbrev Good : Seen → Happening → Turn → Type 0

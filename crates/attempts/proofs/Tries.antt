@@ -18,9 +18,10 @@ use Rattle.wire.proofs.Building.{sendable-command}
 use Rattle.till.specs.Turns.{Ear, freshEar, Pending, idle, waits, State, freshState, Happening, command, byte, timeout, Turn, stays, sent, Meaning, failed, goesOn, answers, byteMeans, failsTry, onMeaning, onCommand, takes, hears}
 use Rattle.attempts.specs.History.{Lent, says, behind, seqOf, Open, none, one, Seen, nothingSeen, onWord, noted, watch, watched, Mark, ended, marksOf, marks, alternate, ends, failure, failureOf, failures}
 use Rattle.attempts.specs.Promises.{Tried, GivenUp}
-use Rattle.till.specs.declared.Word.the-variants.{Idle, Answered, Unfinished, TooShort, NotSent}
+use Rattle.till.specs.declared.Word.the-variants.{Idle, Unfinished, TooShort, NotSent}
 use Rattle.attempts.proofs.Answers.{none-idle}
-use Rattle.attempts.proofs.Seeing.{earSeen, stateSeen, Sound, state-seen, sound-seen, failsBy}
+use Rattle.till.proofs.Turning.{failsBy}
+use Rattle.attempts.proofs.Seeing.{earSeen, stateSeen, Sound, state-seen, sound-seen}
 
 -- at every moment the frames handed out for the command that waits are its own, one to five
 pub frames-same : (ls : List Lent) (m : Message) (frames : List (List ℕ)) (since : List ℕ) → watched ls .last ≡ one m frames since → Tried m frames
@@ -256,7 +257,7 @@ watch-snoc : (ls : List Lent) (seen : Seen) (s : State) (l : Lent) → watch see
 watch-snoc [] seen s l = refl
 watch-snoc (x ∷ ls) seen s l = watch-snoc ls (noted seen (x .happens) (says s x)) (says s x .state) l
 
--- behind Unfinished, and behind Answered, no command waits
+-- behind Unfinished no command waits
 pub unfinished-over : (ls : List Lent) (l : Lent) (n : ℕ) → says (behind freshState ls) l .word ≡ Unfinished n → watched (ls ++ l ∷ []) .last ≡ none
 unfinished-over ls l n e =
     ap (λ (z : Seen). z .last) (watch-snoc ls nothingSeen freshState l)
@@ -267,11 +268,6 @@ pub too-late : (ls : List Lent) (l : Lent) (n : ℕ) → says (behind freshState
     → says (behind freshState (ls ++ l ∷ [])) (record { size = size; happens = byte b }) ≡ stays Idle (behind freshState (ls ++ l ∷ []))
 too-late ls l n e size b big =
     none-idle (ls ++ l ∷ []) size (byte b) (unfinished-over ls l n e) big (λ code content q. let z : _≡_ {A = ℕ} 0 1 = cc in omega arith)
-
-pub answered-over : (ls : List Lent) (l : Lent) (n : ℕ) → says (behind freshState ls) l .word ≡ Answered n → watched (ls ++ l ∷ []) .last ≡ none
-answered-over ls l n e =
-    ap (λ (z : Seen). z .last) (watch-snoc ls nothingSeen freshState l)
-    ∙ ap (λ w. onWord (watched ls) (l .happens) w (says (behind freshState ls) l .puts) .last) e
 
 -- 7 comes before all else, and changes nothing
 pub short-first : (s : State) (size : ℕ) (h : Happening) → size < 210 → hears size s h ≡ stays TooShort s

@@ -23,7 +23,7 @@ use Rattle.line.specs.Turns as line
 use Rattle.device.specs.Carrying.{deedFor, carry}
 use Rattle.till.specs.Turns as till
 use Rattle.till.specs.declared.Word.the-variants.{TooShort}
-use Rattle.attempts.proofs.Seeing.{failsBy}
+use Rattle.till.proofs.Turning.{failsBy}
 use Rattle.promises.specs.AtDevice.{reads, NewFrame, row-0-taken, row-1, row-2, row-5, row-6, row-7}
 use Rattle.promises.specs.AtTill.{isFailed, fails, row-0-byte, row-0-answered, row-8}
 use Rattle.promises.specs.AtTill as at-till-end

@@ -22,7 +22,7 @@ use Rattle.till.specs.declared.Till.{Till}
 use Rattle.till.specs.declared.Word.the-variants.{TooShort, NotSent}
 use Rattle.attempts.proofs.Following.{fields-follow}
 use Rattle.till.proofs.Outer.{read-same, framed-same}
-use Rattle.attempts.proofs.Seeing.{failsBy}
+use Rattle.till.proofs.Turning.{failsBy}
 use Rattle.promises.specs.AtTill.{fromLine}
 use Rattle.promises.specs.Ends.{ofTill}
 use Rattle.promises.specs.Coded.{Machines, turnAfter, sentAfter, answerAfter, givenIn, TillResult}

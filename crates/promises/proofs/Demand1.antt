@@ -22,7 +22,7 @@ use Rattle.device.specs.Carrying.{deedFor, carry}
 use Rattle.device.specs.Device.{lentTurn}
 use Rattle.till.specs.Turns as till
 use Rattle.till.specs.declared.Word.the-variants.{Unfinished, TooShort, NotSent}
-use Rattle.attempts.proofs.Seeing.{failsBy}
+use Rattle.till.proofs.Turning.{failsBy}
 use Rattle.promises.specs.AtDevice.{ByDevice}
 use Rattle.promises.specs.AtTill.{replies, fails, noneWaits, row-9}
 use Rattle.promises.specs.Demand1.{Bench, freshBench, Comes, atDevice, atTill, Outcome, fromDevice, fromTill, benchAfter, ByTheTable, at-device, at-till, AllByTheTable, no-more, then}

@@ -16,7 +16,8 @@ use Rattle.reader.proofs.RoundTrip.{frame-size}
 use Rattle.till.specs.Turns as till
 use Rattle.till.specs.declared.Word.the-variants.{TooShort, NotSent}
 use Rattle.attempts.proofs.Answers.{answers-heard}
-use Rattle.attempts.proofs.Seeing.{failsBy, goes-on}
+use Rattle.till.proofs.Turning.{failsBy}
+use Rattle.attempts.proofs.Seeing.{goes-on}
 
 -- a whole answer heard: at most 200 bytes of data and six of status
 abbrev Brief : Event → Type 0

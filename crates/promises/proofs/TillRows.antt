@@ -11,7 +11,7 @@ use Rattle.wire.specs.Frame.{Message, commandOf, frame, sendable}
 use Rattle.wire.specs.declared.Kind.the-variants.{Command}
 use Rattle.till.specs.Turns as till
 use Rattle.till.specs.declared.Word.the-variants.{Idle, Waiting, TooShort, NotSent}
-use Rattle.attempts.proofs.Seeing.{failsBy}
+use Rattle.till.proofs.Turning.{failsBy}
 use Rattle.promises.specs.AtTill.{FromTill, replies, fromLine, isFailed, fails, isWaiting, unsendable, ByTill, row-0-idle, row-0-sent, row-0-byte, row-0-again, row-0-answered, row-7, row-8, row-9}
 use Rattle.promises.specs.Ends.{ofTill}
 

@@ -2,7 +2,7 @@
 use mathlib.Core.Path.{_≡_, refl, sym, ap, _∙_}
 use mathlib.Core.Bool.{Bool, true, false, cond}
 use mathlib.Core.List.{List}
-use Prim.Native.Nat.{ℕ, _+_, _≤_, _<_}
+use Prim.Native.Nat.{ℕ, _≤_, _<_}
 use native.Mathlib.Omega.{arith}
 use lib.Dec.{ltb}
 use lib.ListN.{length, take}
@@ -20,9 +20,10 @@ use Rattle.reader.proofs.RoundTrip.{frame-size}
 use Rattle.reader.specs.Fields.{placeOf, keptIn}
 use Rattle.reader.specs.declared.Reader.{Reader}
 use Rattle.till.specs.Words.{numberOf}
-use Rattle.till.specs.Turns.{freshEar, idle, waits, Turn, Happening, command, byte, timeout, Meaning, failed, goesOn, answers, stays, gives, onMeaning, onByte, onTimeout, onCommand, sent, seqAfter, takes}
+use Rattle.till.specs.Turns.{freshEar, idle, Turn, Happening, command, byte, timeout, Meaning, failed, goesOn, answers, stays, onMeaning, onByte, onTimeout, onCommand, sent, seqAfter, takes}
 use Rattle.till.specs.Fields.{earOf, pendingOf, stateOf, slotOf, tillOf, framed, heldIn, refused, saidOf, turnOf}
 use Rattle.till.specs.Private.{spoken, failedBy, heardBy, sentBy}
+use Rattle.till.proofs.Turning.{failsBy}
 use Rattle.till.specs.declared.Attempt.{Attempt}
 use Rattle.till.specs.declared.Ear.{Ear as EarFields}
 use Rattle.till.specs.declared.Said.{Said}
@@ -30,7 +31,7 @@ use Rattle.till.specs.declared.Slot.{Slot}
 use Rattle.till.specs.declared.Slot.the-variants.{Free, Held}
 use Rattle.till.specs.declared.Till.{Till}
 use Rattle.till.specs.declared.Word.{Word}
-use Rattle.till.specs.declared.Word.the-variants.{Idle, Waiting, SendAgain, Unfinished, TooShort, NotSent}
+use Rattle.till.specs.declared.Word.the-variants.{Idle, Waiting, TooShort, NotSent}
 
 -- what the arrays hold already is what they hold
 kept-same : (r : Reader) (answer : List ℕ) → answer ≡ keptIn answer (placeOf r answer)
@@ -92,8 +93,7 @@ idle-stays t frame answer e =
 pub not-refused : (next seq code : ℕ) (bytes : List ℕ) (tries : ℕ) (m : Meaning) → refused (numberOf (onMeaning next seq code bytes tries m .word)) ≡ false
 not-refused next seq code bytes tries failed = go (ltb tries 5)
   where
-    go : (s : Bool) → refused (numberOf (cond s (gives SendAgain bytes (record { next = next; pending = waits seq code bytes (tries + 1) freshEar }))
-        (stays (Unfinished tries) (record { next = next; pending = idle })) .word)) ≡ false
+    go : (early : Bool) → refused (numberOf (failsBy next seq code bytes tries early .word)) ≡ false
     go true = refl
     go false = refl
 not-refused next seq code bytes tries (goesOn ear) = refl

@@ -80,18 +80,21 @@ stands r answer b m size fits e =
 pub length-status : (answer : List ℕ) (n : ℕ) → n + 10 ≤ length answer → length (take 6 (drop (4 + n) answer)) ≡ 6
 length-status answer n h = length-take-le 6 (drop (4 + n) answer) (omega (arith, length-drop (4 + n) answer))
 
--- a failed try
-module _ (next : ℕ) (a : Attempt) (frame : List ℕ) where
-  pub fails-early : a .tries < 5
-      → failedBy next a frame ≡ gives SendAgain (take (a .count) frame) (record { next = next; pending = waits (a .seq) (a .code) (take (a .count) frame) (a .tries + 1) freshEar })
-  fails-early h =
-      ap (λ s. cond s (gives SendAgain (take (a .count) frame) (record { next = next; pending = waits (a .seq) (a .code) (take (a .count) frame) (a .tries + 1) freshEar }))
-      (stays (Unfinished (a .tries)) (record { next = next; pending = idle }))) (lt-ltb (a .tries) 5 h)
+-- a failed try, by whether it comes before the fifth
+abbrev pub failsBy : (next seq code : ℕ) → List ℕ → ℕ → Bool → Turn
+failsBy next seq code bytes tries early =
+    cond early (gives SendAgain bytes (record { next = next; pending = waits seq code bytes (tries + 1) freshEar }))
+    (stays (Unfinished tries) (record { next = next; pending = idle }))
 
-  pub fails-last : 5 ≤ a .tries → failedBy next a frame ≡ stays (Unfinished (a .tries)) (record { next = next; pending = idle })
-  fails-last h =
-      ap (λ s. cond s (gives SendAgain (take (a .count) frame) (record { next = next; pending = waits (a .seq) (a .code) (take (a .count) frame) (a .tries + 1) freshEar }))
-      (stays (Unfinished (a .tries)) (record { next = next; pending = idle }))) (le-ltb (a .tries) 5 h)
+module _ (next : ℕ) (a : Attempt) (frame : List ℕ) where
+  abbrev fails : Bool → Turn
+  fails early = failsBy next (a .seq) (a .code) (take (a .count) frame) (a .tries) early
+
+  fails-early : a .tries < 5 → failedBy next a frame ≡ fails true
+  fails-early h = ap fails (lt-ltb (a .tries) 5 h)
+
+  fails-last : 5 ≤ a .tries → failedBy next a frame ≡ fails false
+  fails-last h = ap fails (le-ltb (a .tries) 5 h)
 
   pub says-again : a .tries < 5 → length frame ≡ 256 → a .count < 256 → (start : EarFields) → start ≡ earOf freshEar → (buf buf' : List ℕ)
       → buf' ≡ sets buf 0 (take (a .count) frame)
@@ -114,8 +117,7 @@ module _ (next : ℕ) (a : Attempt) (frame : List ℕ) where
   pub fails-keeps : (answer : List ℕ) → answer ≡ heldIn answer (failedBy next a frame .state .pending)
   fails-keeps answer = go (ltb (a .tries) 5)
     where
-      go : (s : Bool) → answer ≡ heldIn answer (cond s (gives SendAgain (take (a .count) frame) (record { next = next; pending = waits (a .seq) (a .code) (take (a .count) frame) (a .tries + 1) freshEar }))
-          (stays (Unfinished (a .tries)) (record { next = next; pending = idle })) .state .pending)
+      go : (early : Bool) → answer ≡ heldIn answer (fails early .state .pending)
       go true = refl
       go false = refl
 
