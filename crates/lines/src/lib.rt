@@ -3,11 +3,13 @@ use text::find;
 ghost use mathlib.Core.Path.{_≡_};
 ghost use Rattle.lines.specs.Texts.{isText, areTexts, restOf, onlyLine, firstLine, secondLine};
 
-// PROTOCOL 4.7: as many bytes as a text has at most, and the two bytes behind texts.
+// PROTOCOL 4.7: as many bytes as a text has at most.
 pub const MOST_TEXT: usize = 42;
 
+// PROTOCOL 4.7: between L1 and L2.
 const LF: u8 = 0x0A;
 
+// PROTOCOL 4.7: behind the texts.
 const TAB: u8 = 0x09;
 
 // Where the rest behind the texts and their Tab begins, or syntax: reply number 1.

@@ -26,9 +26,10 @@ pub const LEAST_LENT: usize = 210;
 // PROTOCOL 1.2: any frame has room here, of a command or of an answer, and its bytes are counted in one byte.
 pub const FRAME_ROOM: usize = 256;
 
-// PROTOCOL 7.3: the SEQ of the first command, and the one behind which it comes again.
+// PROTOCOL 7.3: the SEQ of the first command.
 const FIRST_SEQ: u8 = 0x20;
 
+// PROTOCOL 7.3: the last SEQ; behind it the first comes again.
 const LAST_SEQ: u8 = 0xFF;
 
 // What the try under way has heard. The answer's bytes so far stand at the front of a lent array.
@@ -68,6 +69,7 @@ pub enum Word {
     NotSent,
 }
 
+// The till end after an event, and its word.
 pub struct Said {
     pub till: Till,
     pub word: Word,
