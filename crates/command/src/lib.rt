@@ -1,4 +1,4 @@
-// What the data of a command means (PROTOCOL 5.1).
+// What the data of a command means, and its texts (PROTOCOL 5.1, 4.7).
 pub mod money;
 
 use kinds::Command;
@@ -7,6 +7,7 @@ use kinds::plain;
 ghost use mathlib.Core.Path.{_≡_};
 ghost use Rattle.command.specs.Commands.{parsedOf, firstText, secondText};
 
+// Any command: its kind with its fields; or 1, where the data is not of its form; or 2, where CMD is none of the fourteen.
 pub fn parse(code: u8, bytes: &[u8]) -> Parsed
     ensures { λ r. ⌜ r ≡ parsedOf code (now (bytes .entry)) ⌝ }
 {
@@ -35,8 +36,7 @@ pub fn first_text(code: u8, bytes: &[u8]) -> &[u8]
 {
     match code {
         42 => lines::only_line(bytes),
-        49 => lines::first_line(bytes),
-        53 => lines::first_line(bytes),
+        49 | 53 => lines::first_line(bytes),
         _ => &bytes[..0],
     }
 }
@@ -46,8 +46,7 @@ pub fn second_text(code: u8, bytes: &[u8]) -> &[u8]
     ensures { λ r. ⌜ now r ≡ secondText code (now (bytes .entry)) ⌝ }
 {
     match code {
-        49 => lines::second_line(bytes),
-        53 => lines::second_line(bytes),
+        49 | 53 => lines::second_line(bytes),
         _ => &bytes[..0],
     }
 }

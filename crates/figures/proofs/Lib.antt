@@ -1,4 +1,3 @@
-pub mod Cutting
 pub mod Reading
 pub mod Decimals
 pub mod Bounds

@@ -7,8 +7,8 @@ use native.Mathlib.Omega.{arith}
 use lib.Dec.{ltb}
 use lib.ListN.{length, getD, take, drop}
 use borrow.Author.Tests.{lt-ltb, le-ltb}
-use Rattle.figures.specs.Parts.{firstAt, has, upTo, past}
-use Rattle.figures.proofs.Cutting.{place-within, to-end}
+use Rattle.text.specs.Parts.{firstAt, has, upTo, past}
+use Rattle.text.proofs.Cutting.{place-within, to-end}
 use Rattle.kinds.specs.Plain.{sumsOf, closingOf}
 use Rattle.kinds.specs.Fields.{parsedNumber, endsOr}
 use Rattle.kinds.specs.declared.Command.{Command}

@@ -2,10 +2,11 @@
 use mathlib.Core.Path.{_≡_, sym, ap, _∙_}
 use mathlib.Core.Bool.{true, false, cond, _&&_}
 use mathlib.Core.List.{List}
-use Prim.Native.Nat.{ℕ, _≤_, _<_}
+use Prim.Native.Nat.{ℕ}
 use lib.ListN.{length}
-use borrow.Author.Tests.{lt-leb, le-leb}
-use Rattle.figures.specs.Parts.{has, upTo, past}
+use lib.Dec.{leb}
+use Rattle.text.specs.Parts.{has, upTo, past}
+use Rattle.wire.specs.Bytes.{within}
 use Rattle.figures.specs.Numbers.{fieldOf}
 use Rattle.figures.specs.declared.Number.the-variants.{Is, NotOne}
 use Rattle.kinds.specs.Fields.{comma}
@@ -24,17 +25,11 @@ module _ (op pwd till : List ℕ) where
   no-till o p e f g = rw (e, f, g)
 
   module _ (o p t : ℕ) (e : fieldOf 1 op ≡ Is o) (f : fieldOf 6 pwd ≡ Is p) (g : fieldOf 5 till ≡ Is t) where
-    pub op-low : o < 1 → Syntax ≡ openWith op pwd till
-    op-low h = rw (e, f, g, lt-leb 1 o h)
+    pub opened : within 1 8 o && leb 4 (length pwd) ≡ true → Read (Open o (record { digits = length pwd; value = p }) t) ≡ openWith op pwd till
+    opened h = rw (e, f, g, h)
 
-    pub op-high : 1 ≤ o → 8 < o → Syntax ≡ openWith op pwd till
-    op-high k h = rw (e, f, g, le-leb 1 o k, lt-leb o 8 h)
-
-    pub password-short : 1 ≤ o → o ≤ 8 → length pwd < 4 → Syntax ≡ openWith op pwd till
-    password-short k l h = rw (e, f, g, le-leb 1 o k, le-leb o 8 l, lt-leb 4 (length pwd) h)
-
-    pub opened : 1 ≤ o → o ≤ 8 → 4 ≤ length pwd → Read (Open o (record { digits = length pwd; value = p }) t) ≡ openWith op pwd till
-    opened k l h = rw (e, f, g, le-leb 1 o k, le-leb o 8 l, le-leb 4 (length pwd) h)
+    pub not-opened : within 1 8 o && leb 4 (length pwd) ≡ false → Syntax ≡ openWith op pwd till
+    not-opened h = rw (e, f, g, h)
 
 module _ (s : List ℕ) where
   pub no-comma : has comma s ≡ false → Syntax ≡ openOf s

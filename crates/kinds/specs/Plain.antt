@@ -5,7 +5,7 @@ use mathlib.Core.List.{List, [], _∷_}
 use lib.Dec.{leb, eqb}
 use lib.ListN.{length, getD}
 use Rattle.wire.specs.Bytes.{within}
-use Rattle.figures.specs.Parts.{has, upTo, past}
+use Rattle.text.specs.Parts.{has, upTo, past}
 use Rattle.figures.specs.Numbers.{fieldOf}
 use Rattle.lines.specs.Texts.{isText}
 use Rattle.kinds.specs.Fields.{fieldThen, comma}

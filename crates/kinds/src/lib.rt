@@ -34,16 +34,19 @@ pub enum Mode {
     B,
 }
 
+// What is paid at 53: the whole rest, or an amount in stotinki.
 pub enum Tender {
     Rest,
     Amount(u64),
 }
 
+// 53: in what, and how much.
 pub struct Payment {
     pub mode: Mode,
     pub tender: Tender,
 }
 
+// 70: a report, or an amount put into the drawer or taken out.
 pub enum Service {
     Report,
     In(u64),

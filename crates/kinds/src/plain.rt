@@ -1,4 +1,4 @@
-// The commands whose data names no sum.
+// The commands whose data names no sum (PROTOCOL 5.1).
 use crate::Command;
 use crate::Parsed;
 use crate::Password;
@@ -6,6 +6,7 @@ use figures::Number;
 ghost use mathlib.Core.Path.{_≡_};
 ghost use Rattle.kinds.specs.Plain.{bareOf, textOf, openOf, openWith, subtotalOf, isFlag, sumsOf, closingOf};
 
+// 38, 39, 56, 60, 74 and 97: no data.
 pub fn bare(command: Command, s: &[u8]) -> Parsed
     ensures { λ r. ⌜ r ≡ bareOf command (now (s .entry)) ⌝ }
 {
@@ -15,6 +16,7 @@ pub fn bare(command: Command, s: &[u8]) -> Parsed
     Parsed::Syntax
 }
 
+// 42: its data is one text.
 pub fn text(s: &[u8]) -> Parsed
     ensures { λ r. ⌜ r ≡ textOf (now (s .entry)) ⌝ }
 {
@@ -24,16 +26,17 @@ pub fn text(s: &[u8]) -> Parsed
     Parsed::Syntax
 }
 
+// 48: `Op,Pwd,Till`.
 pub fn open_receipt(s: &[u8]) -> Parsed
     ensures { λ r. ⌜ r ≡ openOf (now (s .entry)) ⌝ }
 {
-    let first = figures::find(s, b',');
+    let first = text::find(s, b',');
     if first == s.len() {
         return Parsed::Syntax;
     }
     let next = first + 1;
     let rest = &s[next..];
-    let second = figures::find(rest, b',');
+    let second = text::find(rest, b',');
     if second == rest.len() {
         return Parsed::Syntax;
     }
@@ -41,6 +44,7 @@ pub fn open_receipt(s: &[u8]) -> Parsed
     open_with(&s[..first], &rest[..second], &rest[last..])
 }
 
+// Op is one digit 1 to 8, Pwd 4 to 6 digits, Till 1 to 5.
 fn open_with(op: &[u8], password: &[u8], till: &[u8]) -> Parsed
     ensures { λ r. ⌜ r ≡ openWith (now (op .entry)) (now (password .entry)) (now (till .entry)) ⌝ }
 {
@@ -56,34 +60,26 @@ fn open_with(op: &[u8], password: &[u8], till: &[u8]) -> Parsed
     let Number::Is(t) = c else {
         return Parsed::Syntax;
     };
-    if o < 1 {
-        return Parsed::Syntax;
+    if (1 <= o) & (o <= 8) & (4 <= password.len()) {
+        return Parsed::Read(Command::Open {
+            op: o,
+            password: Password {
+                digits: password.len(),
+                value: p,
+            },
+            till: t,
+        });
     }
-    if 8 < o {
-        return Parsed::Syntax;
-    }
-    if password.len() < 4 {
-        return Parsed::Syntax;
-    }
-    Parsed::Read(Command::Open {
-        op: o,
-        password: Password {
-            digits: password.len(),
-            value: p,
-        },
-        till: t,
-    })
+    Parsed::Syntax
 }
 
 fn is_flag(b: u8) -> bool
     ensures { λ r. ⌜ r ≡ isFlag b ⌝ }
 {
-    if b < b'0' {
-        return false;
-    }
-    b <= b'1'
+    (b'0' <= b) & (b <= b'1')
 }
 
+// 51: two characters, each `0` or `1`.
 pub fn subtotal(s: &[u8]) -> Parsed
     ensures { λ r. ⌜ r ≡ subtotalOf (now (s .entry)) ⌝ }
 {
@@ -104,6 +100,7 @@ pub fn subtotal(s: &[u8]) -> Parsed
     })
 }
 
+// 65: the day sums, or with `1` the taxes.
 pub fn sums(s: &[u8]) -> Parsed
     ensures { λ r. ⌜ r ≡ sumsOf (now (s .entry)) ⌝ }
 {
@@ -114,15 +111,14 @@ pub fn sums(s: &[u8]) -> Parsed
         return Parsed::Syntax;
     }
     let b = s[0];
-    if b == b'0' {
-        return Parsed::Read(Command::Sums { taxes: false });
+    match b {
+        b'0' => Parsed::Read(Command::Sums { taxes: false }),
+        b'1' => Parsed::Read(Command::Sums { taxes: true }),
+        _ => Parsed::Syntax,
     }
-    if b == b'1' {
-        return Parsed::Read(Command::Sums { taxes: true });
-    }
-    Parsed::Syntax
 }
 
+// 69: `0` closes the day, `2` reports.
 pub fn closing(s: &[u8]) -> Parsed
     ensures { λ r. ⌜ r ≡ closingOf (now (s .entry)) ⌝ }
 {
@@ -130,11 +126,9 @@ pub fn closing(s: &[u8]) -> Parsed
         return Parsed::Syntax;
     }
     let b = s[0];
-    if b == b'0' {
-        return Parsed::Read(Command::Closing { clears: true });
+    match b {
+        b'0' => Parsed::Read(Command::Closing { clears: true }),
+        b'2' => Parsed::Read(Command::Closing { clears: false }),
+        _ => Parsed::Syntax,
     }
-    if b == b'2' {
-        return Parsed::Read(Command::Closing { clears: false });
-    }
-    Parsed::Syntax
 }

@@ -10,9 +10,9 @@ use lib.Seq.{length-take-le, take-take}
 use borrow.Author.Tests.{le-leb, lt-leb, lt-ltb, le-ltb, ltb-true}
 use Rattle.wire.specs.Bytes.{every}
 use Rattle.wire.proofs.Suits.{both}
-use Rattle.figures.specs.Parts.{firstAt, has, upTo}
+use Rattle.text.specs.Parts.{firstAt, has, upTo}
 use Rattle.lines.specs.Texts.{tab, lineFeed, isText, areTexts, beginsWithTexts, restOf, onlyLine, firstLine, secondLine}
-use Rattle.figures.proofs.Cutting.{place-within, drop-take}
+use Rattle.text.proofs.Cutting.{place-within, drop-take}
 use Rattle.lines.specs.declared.Found.{Found}
 use Rattle.lines.specs.declared.Found.the-variants.{At, NotThere}
 

@@ -5,7 +5,7 @@ use mathlib.Core.List.{List, []}
 use lib.Dec.{leb}
 use lib.ListN.{length}
 use Rattle.wire.specs.Bytes.{every}
-use Rattle.figures.specs.Parts.{firstAt, has, upTo, past}
+use Rattle.text.specs.Parts.{firstAt, has, upTo, past}
 use Rattle.lines.specs.declared.Found.{Found}
 use Rattle.lines.specs.declared.Found.the-variants.{At, NotThere}
 

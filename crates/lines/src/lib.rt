@@ -1,7 +1,16 @@
-// The texts before a Tab, and the text of 42: each is handed on as a part of the lent data.
-use figures::find;
+// The texts before a Tab, and the text of 42: each is handed on as a part of the lent data (PROTOCOL 4.7).
+use text::find;
 ghost use mathlib.Core.Path.{_≡_};
 ghost use Rattle.lines.specs.Texts.{isText, areTexts, restOf, onlyLine, firstLine, secondLine};
+
+// PROTOCOL 4.7: as many bytes as a text has at most.
+pub const MOST_TEXT: usize = 42;
+
+// PROTOCOL 4.7: between L1 and L2.
+const LF: u8 = 0x0A;
+
+// PROTOCOL 4.7: behind the texts.
+const TAB: u8 = 0x09;
 
 // Where the rest behind the texts and their Tab begins, or syntax: reply number 1.
 pub enum Found {
@@ -13,7 +22,7 @@ pub enum Found {
 pub fn is_text(s: &[u8]) -> bool
     ensures { λ r. ⌜ r ≡ isText (now (s .entry)) ⌝ }
 {
-    if 42 < s.len() {
+    if MOST_TEXT < s.len() {
         return false;
     }
     let mut i = 0;
@@ -30,7 +39,7 @@ pub fn is_text(s: &[u8]) -> bool
 fn are_texts(s: &[u8]) -> bool
     ensures { λ r. ⌜ r ≡ areTexts (now (s .entry)) ⌝ }
 {
-    let at = find(s, 0x0A);
+    let at = find(s, LF);
     if !is_text(&s[..at]) {
         return false;
     }
@@ -45,7 +54,7 @@ fn are_texts(s: &[u8]) -> bool
 pub fn behind_tab(s: &[u8]) -> Found
     ensures { λ r. ⌜ r ≡ restOf (now (s .entry)) ⌝ }
 {
-    let at = find(s, 0x09);
+    let at = find(s, TAB);
     if at == s.len() {
         return Found::NotThere;
     }
@@ -74,7 +83,7 @@ pub fn first_line(s: &[u8]) -> &[u8]
         return &s[..0];
     };
     let tab = next - 1;
-    let end = find(&s[..tab], 0x0A);
+    let end = find(&s[..tab], LF);
     &s[..end]
 }
 
@@ -87,7 +96,7 @@ pub fn second_line(s: &[u8]) -> &[u8]
         return &s[..0];
     };
     let tab = next - 1;
-    let at = find(&s[..tab], 0x0A);
+    let at = find(&s[..tab], LF);
     if at == tab {
         return &s[..0];
     }

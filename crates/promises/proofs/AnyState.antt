@@ -24,7 +24,7 @@ use Rattle.line.specs.Turns as line
 use Rattle.carrying.specs.Carrying.{deedFor, carry}
 use Rattle.till.specs.Turns as till
 use Rattle.till.specs.declared.Word.the-variants.{TooShort}
-use Rattle.till.proofs.Seeing.{failsBy}
+use Rattle.till.proofs.Turning.{failsBy}
 use Rattle.promises.specs.AtDevice.{reads, NewFrame, row-0-taken, row-1, row-2, row-5, row-6, row-7}
 use Rattle.promises.specs.AtTill.{isFailed, fails, row-0-byte, row-0-answered, row-8}
 use Rattle.promises.specs.AtTill as at-till-end
@@ -80,35 +80,35 @@ module _ (d : line.State Store) (buffer : List ℕ) (room : 210 ≤ length buffe
   abbrev bench : ℕ → till.Pending → Bench
   bench next p = record { device = d; till = record { next = next; pending = p } }
 
-  module _ (next seq code : ℕ) (bytes : List ℕ) (tries : ℕ) (place : Place) (many : 5 < tries) where
+  module _ (next seq code : ℕ) (bytes : List ℕ) (tries : ℕ) (ear : till.Ear) (many : 5 < tries) where
     abbrev held : Bench
-    held = bench next (till.waits seq code bytes tries place)
+    held = bench next (till.waits seq code bytes tries ear)
 
-    failing : (h : till.Happening) → fails seq code place h ≡ true → Says held (atTill buffer h) (fromTill (ofTill buffer (till.failsTry next seq code bytes tries)))
+    failing : (h : till.Happening) → fails seq code ear h ≡ true → Says held (atTill buffer h) (fromTill (ofTill buffer (till.failsTry next seq code bytes tries)))
     failing h f =
         subst (λ z. Says held (atTill buffer h) (fromTill (ofTill buffer (failsBy next seq code bytes tries z)))) (sym (le-ltb tries 5 (omega (arith, many))))
-        (inr (more-tries seq code bytes tries place room refl f many))
+        (inr (more-tries seq code bytes tries ear room refl f many))
 
-    on-byte : (b : ℕ) (x : till.Meaning) → till.byteMeans seq code place b ≡ x
+    on-byte : (b : ℕ) (x : till.Meaning) → till.byteMeans seq code ear b ≡ x
         → Says held (atTill buffer (till.byte b)) (fromTill (ofTill buffer (till.onMeaning next seq code bytes tries x)))
     on-byte b till.failed e = failing (till.byte b) (ap isFailed e)
-    on-byte b (till.goesOn q) e = inl (at-till (row-0-byte b seq code bytes tries place q room refl e))
-    on-byte b (till.answers m) e = inl (at-till (row-0-answered b seq code bytes tries place m room refl e))
+    on-byte b (till.goesOn q) e = inl (at-till (row-0-byte b seq code bytes tries ear q room refl e))
+    on-byte b (till.answers m) e = inl (at-till (row-0-answered b seq code bytes tries ear m room refl e))
 
     beyond-five : (h : till.Happening) → Says held (atTill buffer h) (fromTill (ofTill buffer (till.takes (held .till) h)))
     beyond-five (till.command other content) = inl (at-till (row-8 other content room refl))
-    beyond-five (till.byte b) = on-byte b (till.byteMeans seq code place b) refl
+    beyond-five (till.byte b) = on-byte b (till.byteMeans seq code ear b) refl
     beyond-five till.timeout = failing till.timeout refl
 
   taken : (next : ℕ) (p : till.Pending) (h : till.Happening) → Says (bench next p) (atTill buffer h) (fromTill (ofTill buffer (till.takes (bench next p .till) h)))
   taken next till.idle h = inl (at-till (taking buffer room next till.idle (omega arith) h))
-  taken next (till.waits seq code bytes tries place) h = go (leb tries 5) refl
+  taken next (till.waits seq code bytes tries ear) h = go (leb tries 5) refl
     where
       go : (few : Bool) → leb tries 5 ≡ few
-          → Says (bench next (till.waits seq code bytes tries place)) (atTill buffer h)
-          (fromTill (ofTill buffer (till.takes (bench next (till.waits seq code bytes tries place) .till) h)))
-      go true e = inl (at-till (taking buffer room next (till.waits seq code bytes tries place) (leb-true tries 5 e) h))
-      go false e = beyond-five next seq code bytes tries place (leb-false tries 5 e) h
+          → Says (bench next (till.waits seq code bytes tries ear)) (atTill buffer h)
+          (fromTill (ofTill buffer (till.takes (bench next (till.waits seq code bytes tries ear) .till) h)))
+      go true e = inl (at-till (taking buffer room next (till.waits seq code bytes tries ear) (leb-true tries 5 e) h))
+      go false e = beyond-five next seq code bytes tries ear (leb-false tries 5 e) h
 
 -- the theorem
 pub in-any-state : (s : Bench) (c : Comes) → ByTheTable s c (outcomeOf s c) ⊎ Beyond s c (outcomeOf s c)

@@ -2,26 +2,27 @@
 use mathlib.Core.Path.{_≡_, refl, sym, ap, _∙_, subst}
 use mathlib.Core.Bool.{Bool, true, false, cond, false≢true}
 use mathlib.Core.List.{List}
-use Prim.Native.Nat.{ℕ, _≤_}
+use Prim.Native.Nat.{ℕ, _≤_, _<_}
 use native.Mathlib.Omega.{arith}
 use lib.Dec.{ltb}
 use lib.ListN.{length, take}
 use lib.Seq.{sets, length-sets}
 use Rattle.wire.specs.Frame.{commandOf, sendable}
 use Rattle.wire.specs.declared.Kind.the-variants.{Command, Answer}
-use Rattle.reader.specs.Reading.{outside, inside, read}
-use Rattle.reader.proofs.Holding.{underway-few}
+use Rattle.reader.specs.Reading.{Place, outside, inside, read}
+use Rattle.reader.proofs.Holding.{Underway, underway-few}
+use Rattle.reader.specs.Fields.{readerOf}
 use Rattle.reader.proofs.Running.{kept-length}
 use Rattle.device.proofs.Working.{front-stands}
 use Rattle.till.specs.Turns as till
 use Rattle.till.specs.Fields as fields
-use Rattle.till.specs.Promises.{Bytes}
+use Rattle.attempts.specs.Promises.{Bytes}
 use Rattle.till.specs.Words.{numberOf}
 use Rattle.till.specs.declared.Till.{Till}
 use Rattle.till.specs.declared.Word.the-variants.{TooShort, NotSent}
-use Rattle.till.proofs.Following.{fields-follow}
+use Rattle.attempts.proofs.Following.{fields-follow}
 use Rattle.till.proofs.Outer.{read-same, framed-same}
-use Rattle.till.proofs.Seeing.{failsBy}
+use Rattle.till.proofs.Turning.{failsBy}
 use Rattle.promises.specs.AtTill.{fromLine}
 use Rattle.promises.specs.Ends.{ofTill}
 use Rattle.promises.specs.Coded.{Machines, turnAfter, sentAfter, answerAfter, givenIn, TillResult}
@@ -62,9 +63,9 @@ taken-count next till.idle (till.command code content) = go (sendable Command (c
     go false = refl
 taken-count next till.idle (till.byte b) = refl
 taken-count next till.idle till.timeout = refl
-taken-count next (till.waits seq code bytes tries place) (till.command other content) = refl
-taken-count next (till.waits seq code bytes tries place) (till.byte b) = meant-count next seq code bytes tries (till.byteMeans seq code place b)
-taken-count next (till.waits seq code bytes tries place) till.timeout = failed-count next seq code bytes tries
+taken-count next (till.waits seq code bytes tries ear) (till.command other content) = refl
+taken-count next (till.waits seq code bytes tries ear) (till.byte b) = meant-count next seq code bytes tries (till.byteMeans seq code ear b)
+taken-count next (till.waits seq code bytes tries ear) till.timeout = failed-count next seq code bytes tries
 
 word-counts : (s : till.State) (lent : ℕ) (h : till.Happening) → givenIn (till.hears lent s h .word) ≡ length (till.hears lent s h .puts)
 word-counts s lent h = go (ltb lent 210)
@@ -79,16 +80,19 @@ bytes-of s z = go (s .pending) z
   where
     go : (p : till.Pending) → Sized p → Bytes (fields.tillOf (record { next = s .next; pending = p }) .slot)
     go till.idle z = tt
-    go (till.waits seq code bytes tries outside) z = (omega (arith, z .0), omega arith)
-    go (till.waits seq code bytes tries (inside sum read)) z = (omega (arith, z .0), underway-few Answer (inside sum read) (z .1))
+    go (till.waits seq code bytes tries ear) z = (omega (arith, z .0), few (ear .place) (z .1))
+      where
+        few : (p : Place) → Underway Answer p → readerOf p .count < 256
+        few outside u = omega arith
+        few (inside sum read) u = underway-few Answer (inside sum read) u
 
 framed-length : (array : List ℕ) (p : till.Pending) → length (fields.framed array p) ≡ length array
 framed-length array till.idle = refl
-framed-length array (till.waits seq code bytes tries place) = length-sets array 0 bytes
+framed-length array (till.waits seq code bytes tries ear) = length-sets array 0 bytes
 
 read-length : (array : List ℕ) (p : till.Pending) → length (fields.heldIn array p) ≡ length array
 read-length array till.idle = refl
-read-length array (till.waits seq code bytes tries place) = kept-length array place
+read-length array (till.waits seq code bytes tries ear) = kept-length array (ear .place)
 
 abbrev isByte : till.Happening → Bool
 isByte (till.command code content) = false
@@ -110,13 +114,13 @@ module _ (array : List ℕ) where
   frame-stays next p e (till.command code content) l = absurd (false≢true l)
   frame-stays next till.idle e (till.byte b) l = refl
   frame-stays next till.idle e till.timeout l = refl
-  frame-stays next (till.waits seq code bytes tries place) e (till.byte b) l = go (till.byteMeans seq code place b)
+  frame-stays next (till.waits seq code bytes tries ear) e (till.byte b) l = go (till.byteMeans seq code ear b)
     where
       go : (x : till.Meaning) → fields.framed array (till.onMeaning next seq code bytes tries x .state .pending) ≡ array
       go till.failed = frame-failed next seq code bytes tries e
       go (till.goesOn q) = e
       go (till.answers m) = refl
-  frame-stays next (till.waits seq code bytes tries place) e till.timeout l = frame-failed next seq code bytes tries e
+  frame-stays next (till.waits seq code bytes tries ear) e till.timeout l = frame-failed next seq code bytes tries e
 
   answer-stays : (next : ℕ) (p : till.Pending) → fields.heldIn array p ≡ array → (h : till.Happening) → isByte h ≡ false
       → fields.heldIn array (till.takes (record { next = next; pending = p }) h .state .pending) ≡ array
@@ -126,10 +130,10 @@ module _ (array : List ℕ) where
           → fields.heldIn array (cond can (till.sent next (commandOf next code content)) (till.stays NotSent (record { next = next; pending = till.idle })) .state .pending) ≡ array
       go true = refl
       go false = refl
-  answer-stays next (till.waits seq code bytes tries place) e (till.command other content) l = e
+  answer-stays next (till.waits seq code bytes tries ear) e (till.command other content) l = e
   answer-stays next p e (till.byte b) l = absurd (false≢true (sym l))
   answer-stays next till.idle e till.timeout l = refl
-  answer-stays next (till.waits seq code bytes tries place) e till.timeout l = go (ltb tries 5)
+  answer-stays next (till.waits seq code bytes tries ear) e till.timeout l = go (ltb tries 5)
     where
       go : (early : Bool) → fields.heldIn array (failsBy next seq code bytes tries early .state .pending) ≡ array
       go true = refl

@@ -23,7 +23,7 @@ use Rattle.store.specs.Store.{Store}
 use Rattle.device.specs.Device.{Lent, enough, lentTurn}
 use Rattle.till.specs.Turns as till
 use Rattle.till.specs.declared.Word.the-variants.{Unfinished, TooShort, NotSent}
-use Rattle.till.proofs.Seeing.{failsBy}
+use Rattle.till.proofs.Turning.{failsBy}
 use Rattle.promises.specs.AtDevice.{ByDevice}
 use Rattle.promises.specs.AtTill.{replies, fails, noneWaits, row-9}
 use Rattle.promises.specs.Demand1.{Bench, freshBench, Comes, atDevice, atTill, Outcome, fromDevice, fromTill, benchAfter, ByTheTable, at-device, at-till, AllByTheTable, no-more, then}
@@ -113,9 +113,9 @@ few-taken next till.idle (till.command code content) few = go (sendable Command 
     go false = few
 few-taken next till.idle (till.byte b) few = few
 few-taken next till.idle till.timeout few = few
-few-taken next (till.waits seq code bytes tries place) (till.command other content) few = few
-few-taken next (till.waits seq code bytes tries place) (till.byte b) few = few-meant next seq code bytes tries (till.byteMeans seq code place b) few
-few-taken next (till.waits seq code bytes tries place) till.timeout few = few-failed next seq code bytes tries
+few-taken next (till.waits seq code bytes tries ear) (till.command other content) few = few
+few-taken next (till.waits seq code bytes tries ear) (till.byte b) few = few-meant next seq code bytes tries (till.byteMeans seq code ear b) few
+few-taken next (till.waits seq code bytes tries ear) till.timeout few = few-failed next seq code bytes tries
 
 pub tries-stay : (lent : ℕ) (s : till.State) (h : till.Happening) → till-rows.triesOf (s .pending) ≤ 5 → Few (till.hears lent s h)
 tries-stay lent s h few = go (ltb lent 210)
@@ -153,8 +153,8 @@ pub no-other-replies : (cs : List Comes) (rs : List Outcome) → AllByTheTable f
 no-other-replies cs rs all = the-replies-are-the-only-ones freshBench cs rs (outcomesOf freshBench cs) all (every-event-has-its-reply cs)
 
 -- "After the fifth failed try the till end says Unfinished, never an answer": the table leaves it no other reply
-pub the-fifth-failed-try : (s : Bench) (buffer : List ℕ) (h : till.Happening) (seq code : ℕ) (bytes : List ℕ) (place : Place) → 210 ≤ length buffer
-    → s .till .pending ≡ till.waits seq code bytes 5 place → fails seq code place h ≡ true
+pub the-fifth-failed-try : (s : Bench) (buffer : List ℕ) (h : till.Happening) (seq code : ℕ) (bytes : List ℕ) (ear : till.Ear) → 210 ≤ length buffer
+    → s .till .pending ≡ till.waits seq code bytes 5 ear → fails seq code ear h ≡ true
     → (r : Outcome) → ByTheTable s (atTill buffer h) r → r ≡ fromTill (replies 9 (Unfinished 5) 5 [] buffer (noneWaits (s .till)))
-the-fifth-failed-try s buffer h seq code bytes place room e f r b =
-    the-reply-is-the-only-one s (atTill buffer h) r (fromTill (replies 9 (Unfinished 5) 5 [] buffer (noneWaits (s .till)))) b (at-till (row-9 seq code bytes place room e f))
+the-fifth-failed-try s buffer h seq code bytes ear room e f r b =
+    the-reply-is-the-only-one s (atTill buffer h) r (fromTill (replies 9 (Unfinished 5) 5 [] buffer (noneWaits (s .till)))) b (at-till (row-9 seq code bytes ear room e f))

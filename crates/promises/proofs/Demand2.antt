@@ -28,10 +28,10 @@ use Rattle.line.specs.Turns.{State, Session}
 use Rattle.carrying.specs.Carrying.{deedFor, answerTo, carry}
 use Rattle.recorder.specs.Recording.{recording}
 use Rattle.till.specs.Turns as turns
-use Rattle.till.specs.History.{history, heardBytes, words, behind}
-use Rattle.till.specs.History as till
+use Rattle.attempts.specs.History.{history, heardBytes, words, behind}
+use Rattle.attempts.specs.History as till
 use Rattle.till.specs.declared.Word.the-variants.{Waiting, Answered}
-use Rattle.till.proofs.Frames.{answer-heard}
+use Rattle.attempts.proofs.Frames.{answer-heard}
 use Rattle.promises.specs.Coded.{Machines, Fresh, HeardThrough}
 use Rattle.promises.specs.Demand2.{LentByte, alwaysLent, turnBy, turnsOf, deviceAfter, allGiven, allCarried, dataIn, freshDevice, entriesOf, booksAfter, cashIn}
 use Rattle.promises.proofs.Through.{the-calls-are-the-recording}
@@ -62,14 +62,14 @@ every-answer-can-be-sent arrived m e =
 
 -- and a till end that waits for it, wherever its reading stands, says Waiting up to its last byte and then Answered, with its data and status
 pub both-ends-speak-alike : (arrived : List LentByte) (m : Message) → sendable Command m ≡ true
-    → (s : turns.State) (sent : List ℕ) (tries : ℕ) (place : Place) → s .pending ≡ turns.waits (m .seq) (m .code) sent tries place
+    → (s : turns.State) (sent : List ℕ) (tries : ℕ) (ear : turns.Ear) → s .pending ≡ turns.waits (m .seq) (m .code) sent tries ear
     → let a = answerTo (booksAfter arrived) (m .seq) (m .code) (deedFor (booksAfter arrived) (parsedOf (m .code) (m .content))) in
     let heard-bytes = heardBytes (carry (record { books = booksAfter arrived }) m .answer) in
     (words (history s heard-bytes) ≡ replicate (length (frame Answer a) - 1) (Waiting 0) ++ Answered (length (a .content ++ a .status)) ∷ [])
     × ((till.putsOf (history s heard-bytes) ≡ replicate (length (frame Answer a) - 1) [] ++ (a .content ++ a .status) ∷ [])
     × (behind s heard-bytes ≡ record { next = s .next; pending = turns.idle }))
-both-ends-speak-alike arrived m e s sent tries place waiting =
-    answer-heard s (m .seq) (m .code) sent tries place waiting
+both-ends-speak-alike arrived m e s sent tries ear waiting =
+    answer-heard s (m .seq) (m .code) sent tries ear waiting
     (answerTo (booksAfter arrived) (m .seq) (m .code) (deedFor (booksAfter arrived) (parsedOf (m .code) (m .content)))) (every-answer-can-be-sent arrived m e) refl refl
 
 -- a recording is a history in which 217 bytes are lent each time: all it gives back and carries out is what the turns do

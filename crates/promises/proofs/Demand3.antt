@@ -25,9 +25,9 @@ use Rattle.delivery.proofs.Delivered.{carries-out-that-very-list, brings-for-ea
 use Rattle.delivery.proofs.AtMostOnce.{carries-out-what-is-heard, carries-out-those-whole}
 use Rattle.delivery.proofs.PartOf.{carries-out-a-part}
 use Rattle.delivery.proofs.Ended.{ended-by-the-next}
-use Rattle.till.specs.History.{Lent, seqOf}
-use Rattle.till.specs.Handed.{Handed, handedIn, AllInPlace}
-use Rattle.till.proofs.Handing.{seqs-differ, frames-are-tries}
+use Rattle.attempts.specs.History.{Lent, seqOf}
+use Rattle.attempts.specs.Handed.{Handed, handedIn, AllInPlace}
+use Rattle.attempts.proofs.Handing.{seqs-differ, frames-are-tries}
 use Rattle.carrying.specs.Carrying.{carry}
 use Rattle.device.specs.Device.{storeOf}
 use Rattle.recorder.specs.Recording.{recording, listing, toldIn}

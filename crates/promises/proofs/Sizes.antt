@@ -15,8 +15,9 @@ use Rattle.reader.proofs.Holding.{Underway, underway-read}
 use Rattle.reader.proofs.RoundTrip.{frame-size}
 use Rattle.till.specs.Turns as till
 use Rattle.till.specs.declared.Word.the-variants.{TooShort, NotSent}
-use Rattle.till.proofs.Answers.{answers-heard}
-use Rattle.till.proofs.Seeing.{failsBy, goes-place}
+use Rattle.attempts.proofs.Answers.{answers-heard}
+use Rattle.till.proofs.Turning.{failsBy}
+use Rattle.attempts.proofs.Seeing.{goes-on}
 
 -- a whole answer heard: at most 200 bytes of data and six of status
 abbrev Brief : Event → Type 0
@@ -57,7 +58,7 @@ brief-read p b h = go (eqb b 0x01)
 -- what waits at the till end: a frame of 210 bytes at most, and its answer in reading
 abbrev pub Sized : till.Pending → Type 0
 Sized till.idle = Unit {0}
-Sized (till.waits seq code bytes tries place) = (length bytes ≤ 210) × Underway Answer place
+Sized (till.waits seq code bytes tries ear) = (length bytes ≤ 210) × Underway Answer (ear .place)
 
 -- and what an event leaves waiting, and puts in the lent buffer
 pub record Fitting-turn (t : till.Turn) : Type 0 where
@@ -71,13 +72,13 @@ failing next seq code bytes tries h = go (ltb tries 5)
     go true = record { leaves = (h, tt); puts = h }
     go false = record { leaves = tt; puts = omega arith }
 
-meaning : (next seq code : ℕ) (bytes : List ℕ) (tries : ℕ) (place : Place) (b : ℕ) → Sized (till.waits seq code bytes tries place) → (x : till.Meaning)
-    → till.byteMeans seq code place b ≡ x → Fitting-turn (till.onMeaning next seq code bytes tries x)
-meaning next seq code bytes tries place b h till.failed e = failing next seq code bytes tries (h .0)
-meaning next seq code bytes tries place b h (till.goesOn q) e =
-    record { leaves = (h .0, subst (Underway Answer) (sym (goes-place seq code place b q e)) (underway-read Answer place b (h .1))); puts = omega arith }
-meaning next seq code bytes tries place b h (till.answers m) e =
-    let brief : length (m .content ++ m .status) ≤ 206 = subst Brief (answers-heard seq code place b m e .hears) (brief-read place b (h .1)) in
+meaning : (next seq code : ℕ) (bytes : List ℕ) (tries : ℕ) (ear : till.Ear) (b : ℕ) → Sized (till.waits seq code bytes tries ear) → (x : till.Meaning)
+    → till.byteMeans seq code ear b ≡ x → Fitting-turn (till.onMeaning next seq code bytes tries x)
+meaning next seq code bytes tries ear b h till.failed e = failing next seq code bytes tries (h .0)
+meaning next seq code bytes tries ear b h (till.goesOn q) e =
+    record { leaves = (h .0, subst (λ (z : till.Ear). Underway Answer (z .place)) (sym (goes-on seq code ear b q e)) (underway-read Answer (ear .place) b (h .1))); puts = omega arith }
+meaning next seq code bytes tries ear b h (till.answers m) e =
+    let brief : length (m .content ++ m .status) ≤ 206 = subst Brief (answers-heard seq code ear b m e .hears) (brief-read (ear .place) b (h .1)) in
     record { leaves = tt; puts = omega (arith, brief) }
 
 taken : (next : ℕ) (p : till.Pending) → Sized p → (h : till.Happening) → Fitting-turn (till.takes (record { next = next; pending = p }) h)
@@ -91,9 +92,9 @@ taken next till.idle s (till.command code content) = go (sendable Command (comma
     go false e = record { leaves = tt; puts = omega arith }
 taken next till.idle s (till.byte b) = record { leaves = tt; puts = omega arith }
 taken next till.idle s till.timeout = record { leaves = tt; puts = omega arith }
-taken next (till.waits seq code bytes tries place) s (till.command other content) = record { leaves = s; puts = omega arith }
-taken next (till.waits seq code bytes tries place) s (till.byte b) = meaning next seq code bytes tries place b s (till.byteMeans seq code place b) refl
-taken next (till.waits seq code bytes tries place) s till.timeout = failing next seq code bytes tries (s .0)
+taken next (till.waits seq code bytes tries ear) s (till.command other content) = record { leaves = s; puts = omega arith }
+taken next (till.waits seq code bytes tries ear) s (till.byte b) = meaning next seq code bytes tries ear b s (till.byteMeans seq code ear b) refl
+taken next (till.waits seq code bytes tries ear) s till.timeout = failing next seq code bytes tries (s .0)
 
 -- with a buffer lent: what is put has room in it
 pub record Roomy-turn (buffer : List ℕ) (t : till.Turn) : Type 0 where

@@ -9,43 +9,42 @@ use lib.ListN.{length}
 use borrow.Author.Tests.{ltb-true, ltb-false, lt-ltb, le-ltb}
 use Rattle.wire.specs.Frame.{Message, commandOf, frame, sendable}
 use Rattle.wire.specs.declared.Kind.the-variants.{Command}
-use Rattle.reader.specs.Reading.{Place, outside}
 use Rattle.till.specs.Turns as till
 use Rattle.till.specs.declared.Word.the-variants.{Idle, Waiting, TooShort, NotSent}
-use Rattle.till.proofs.Seeing.{failsBy}
+use Rattle.till.proofs.Turning.{failsBy}
 use Rattle.promises.specs.AtTill.{FromTill, replies, fromLine, isFailed, fails, isWaiting, unsendable, ByTill, row-0-idle, row-0-sent, row-0-byte, row-0-again, row-0-answered, row-7, row-8, row-9}
 use Rattle.promises.specs.Ends.{ofTill}
 
 -- how often the frame of the command that waits was handed out
 abbrev pub triesOf : till.Pending → ℕ
 triesOf till.idle = 0
-triesOf (till.waits seq code bytes tries place) = tries
+triesOf (till.waits seq code bytes tries ear) = tries
 
 is-failed : (x : till.Meaning) → isFailed x ≡ true → x ≡ till.failed
 is-failed till.failed e = refl
-is-failed (till.goesOn place) e = absurd (false≢true e)
+is-failed (till.goesOn ear) e = absurd (false≢true e)
 is-failed (till.answers m) e = absurd (false≢true e)
 
 module _ (buffer : List ℕ) (room : 210 ≤ length buffer) where
   -- a command that waits
-  module _ (next seq code : ℕ) (bytes : List ℕ) (tries : ℕ) (place : Place) (few : tries ≤ 5) where
+  module _ (next seq code : ℕ) (bytes : List ℕ) (tries : ℕ) (ear : till.Ear) (few : tries ≤ 5) where
     abbrev held : till.State
-    held = record { next = next; pending = till.waits seq code bytes tries place }
+    held = record { next = next; pending = till.waits seq code bytes tries ear }
 
     abbrev At : till.Happening → ℕ → Type 0
-    At h n = ByTill (record { next = next; pending = till.waits seq code bytes n place }) buffer h (ofTill buffer (failsBy next seq code bytes n false))
+    At h n = ByTill (record { next = next; pending = till.waits seq code bytes n ear }) buffer h (ofTill buffer (failsBy next seq code bytes n false))
 
-    failing : (h : till.Happening) → fails seq code place h ≡ true → ByTill held buffer h (ofTill buffer (till.failsTry next seq code bytes tries))
+    failing : (h : till.Happening) → fails seq code ear h ≡ true → ByTill held buffer h (ofTill buffer (till.failsTry next seq code bytes tries))
     failing h f = go (ltb tries 5) refl
       where
         go : (early : Bool) → ltb tries 5 ≡ early → ByTill held buffer h (ofTill buffer (failsBy next seq code bytes tries early))
-        go true e = row-0-again seq code bytes tries place room refl f (ltb-true tries 5 e)
-        go false e = subst (At h) (omega (arith, few, ltb-false tries 5 e)) (row-9 seq code bytes place room refl f)
+        go true e = row-0-again seq code bytes tries ear room refl f (ltb-true tries 5 e)
+        go false e = subst (At h) (omega (arith, few, ltb-false tries 5 e)) (row-9 seq code bytes ear room refl f)
 
-    on-byte : (b : ℕ) (x : till.Meaning) → till.byteMeans seq code place b ≡ x → ByTill held buffer (till.byte b) (ofTill buffer (till.onMeaning next seq code bytes tries x))
+    on-byte : (b : ℕ) (x : till.Meaning) → till.byteMeans seq code ear b ≡ x → ByTill held buffer (till.byte b) (ofTill buffer (till.onMeaning next seq code bytes tries x))
     on-byte b till.failed e = failing (till.byte b) (ap isFailed e)
-    on-byte b (till.goesOn q) e = row-0-byte b seq code bytes tries place q room refl e
-    on-byte b (till.answers m) e = row-0-answered b seq code bytes tries place m room refl e
+    on-byte b (till.goesOn q) e = row-0-byte b seq code bytes tries ear q room refl e
+    on-byte b (till.answers m) e = row-0-answered b seq code bytes tries ear m room refl e
 
   -- a command where none waits
   sending : (next code : ℕ) (content : List ℕ) (can : Bool) → sendable Command (commandOf next code content) ≡ can
@@ -59,9 +58,9 @@ module _ (buffer : List ℕ) (room : 210 ≤ length buffer) where
   taking next till.idle few (till.command code content) = sending next code content (sendable Command (commandOf next code content)) refl
   taking next till.idle few (till.byte b) = row-0-idle room refl refl
   taking next till.idle few till.timeout = row-0-idle room refl refl
-  taking next (till.waits seq code bytes tries place) few (till.command other content) = row-8 other content room refl
-  taking next (till.waits seq code bytes tries place) few (till.byte b) = on-byte next seq code bytes tries place few b (till.byteMeans seq code place b) refl
-  taking next (till.waits seq code bytes tries place) few till.timeout = failing next seq code bytes tries place few till.timeout refl
+  taking next (till.waits seq code bytes tries ear) few (till.command other content) = row-8 other content room refl
+  taking next (till.waits seq code bytes tries ear) few (till.byte b) = on-byte next seq code bytes tries ear few b (till.byteMeans seq code ear b) refl
+  taking next (till.waits seq code bytes tries ear) few till.timeout = failing next seq code bytes tries ear few till.timeout refl
 
 pub has-its-row : (s : till.State) (buffer : List ℕ) (h : till.Happening) → triesOf (s .pending) ≤ 5 → ByTill s buffer h (ofTill buffer (till.hears (length buffer) s h))
 has-its-row s buffer h few = go (ltb (length buffer) 210) refl
@@ -84,11 +83,11 @@ module _ (s : till.State) (buffer : List ℕ) where
   abbrev atMeaning : ℕ → ℕ → List ℕ → ℕ → till.Meaning → FromTill
   atMeaning seq code bytes tries x = ofTill buffer (till.onMeaning (s .next) seq code bytes tries x)
 
-  failed : (h : till.Happening) (seq code : ℕ) (bytes : List ℕ) (tries : ℕ) (place : Place) → fails seq code place h ≡ true
-      → atPending h (till.waits seq code bytes tries place) ≡ atMeaning seq code bytes tries till.failed
-  failed (till.command other content) seq code bytes tries place f = absurd (false≢true f)
-  failed (till.byte b) seq code bytes tries place f = ap (atMeaning seq code bytes tries) (is-failed (till.byteMeans seq code place b) f)
-  failed till.timeout seq code bytes tries place f = refl
+  failed : (h : till.Happening) (seq code : ℕ) (bytes : List ℕ) (tries : ℕ) (ear : till.Ear) → fails seq code ear h ≡ true
+      → atPending h (till.waits seq code bytes tries ear) ≡ atMeaning seq code bytes tries till.failed
+  failed (till.command other content) seq code bytes tries ear f = absurd (false≢true f)
+  failed (till.byte b) seq code bytes tries ear f = ap (atMeaning seq code bytes tries) (is-failed (till.byteMeans seq code ear b) f)
+  failed till.timeout seq code bytes tries ear f = refl
 
   idling : (h : till.Happening) → 210 ≤ length buffer → s .pending ≡ till.idle → fromLine h ≡ true
       → atLength h (ltb (length buffer) 210) ≡ ofTill buffer (till.stays Idle s)
@@ -116,21 +115,21 @@ module _ (s : till.State) (buffer : List ℕ) where
       go : (p : till.Pending) (unfit : Bool) → isWaiting p || not (sendable Command m) ≡ unfit
           → ofTill buffer (till.onCommand s p code content) ≡ ofTill buffer (cond unfit (till.stays NotSent s) (till.sent (s .next) m))
       go till.idle unfit e = free (sendable Command m) unfit e
-      go (till.waits seq other bytes tries place) true e = refl
-      go (till.waits seq other bytes tries place) false e = absurd (false≢true (sym e))
+      go (till.waits seq other bytes tries ear) true e = refl
+      go (till.waits seq other bytes tries ear) false e = absurd (false≢true (sym e))
 
   pub only-row : (h : till.Happening) (r : FromTill) → ByTill s buffer h r → r ≡ ofTill buffer (till.hears (length buffer) s h)
   only-row h r (row-0-idle room e f) = sym (idling h room e f)
   only-row h r (row-0-sent code content bytes room f e) =
-      ap (λ z. replies 0 (Waiting (length z)) (length z) z buffer (record { next = till.seqAfter (s .next); pending = till.waits (s .next) code z 1 outside })) e
+      ap (λ z. replies 0 (Waiting (length z)) (length z) z buffer (record { next = till.seqAfter (s .next); pending = till.waits (s .next) code z 1 till.freshEar })) e
       ∙ sym (commanding code content room false f)
-  only-row h r (row-0-byte b seq code bytes tries place q room e f) =
-      sym (long (till.byte b) room (till.waits seq code bytes tries place) e ∙ ap (atMeaning seq code bytes tries) f)
-  only-row h r (row-0-again seq code bytes tries place room e f early) =
-      sym (long h room (till.waits seq code bytes tries place) e ∙ failed h seq code bytes tries place f
+  only-row h r (row-0-byte b seq code bytes tries ear q room e f) =
+      sym (long (till.byte b) room (till.waits seq code bytes tries ear) e ∙ ap (atMeaning seq code bytes tries) f)
+  only-row h r (row-0-again seq code bytes tries ear room e f early) =
+      sym (long h room (till.waits seq code bytes tries ear) e ∙ failed h seq code bytes tries ear f
       ∙ ap (λ z. ofTill buffer (failsBy (s .next) seq code bytes tries z)) (lt-ltb tries 5 early))
-  only-row h r (row-0-answered b seq code bytes tries place m room e f) =
-      sym (long (till.byte b) room (till.waits seq code bytes tries place) e ∙ ap (atMeaning seq code bytes tries) f)
+  only-row h r (row-0-answered b seq code bytes tries ear m room e f) =
+      sym (long (till.byte b) room (till.waits seq code bytes tries ear) e ∙ ap (atMeaning seq code bytes tries) f)
   only-row h r (row-7 short) = sym (ap (atLength h) (lt-ltb (length buffer) 210 short))
   only-row h r (row-8 code content room f) = sym (commanding code content room true f)
-  only-row h r (row-9 seq code bytes place room e f) = sym (long h room (till.waits seq code bytes 5 place) e ∙ failed h seq code bytes 5 place f)
+  only-row h r (row-9 seq code bytes ear room e f) = sym (long h room (till.waits seq code bytes 5 ear) e ∙ failed h seq code bytes 5 ear f)

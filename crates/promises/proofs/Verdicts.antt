@@ -9,8 +9,8 @@ use lib.ListN.{length, drop, getD}
 use borrow.Author.Tests.{leb-true, le-leb, lt-ltb}
 use Rattle.wire.specs.Bytes.{within}
 use Rattle.wire.proofs.Suits.{both}
-use Rattle.figures.specs.Parts.{has, upTo, past}
-use Rattle.figures.specs.Numbers.{fieldNumber, fieldValue, signedNumber, signedMinus, signedSize, fieldOf, priceOf, quantityOf, aboveZero, begins, percentOf, signedPriceOf}
+use Rattle.text.specs.Parts.{has, upTo, past, begins}
+use Rattle.figures.specs.Numbers.{fieldNumber, fieldValue, signedNumber, signedMinus, signedSize, fieldOf, priceOf, quantityOf, aboveZero, percentOf, signedPriceOf}
 use Rattle.figures.specs.declared.Number.{Number}
 use Rattle.figures.specs.declared.Number.the-variants.{Is, NotOne}
 use Rattle.figures.specs.declared.Signed.{Signed}

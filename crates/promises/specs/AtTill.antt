@@ -8,7 +8,6 @@ use lib.ListN.{length}
 use lib.Seq.{sets}
 use Rattle.wire.specs.Frame.{Message, commandOf, frame, sendable}
 use Rattle.wire.specs.declared.Kind.the-variants.{Command}
-use Rattle.reader.specs.Reading.{Place, outside}
 use Rattle.till.specs.Turns as till
 use Rattle.till.specs.declared.Word.{Word}
 use Rattle.till.specs.declared.Word.the-variants.{Idle, Waiting, SendAgain, Answered, Unfinished, TooShort, NotSent}
@@ -37,17 +36,17 @@ fromLine till.timeout = true
 -- PROTOCOL 7.5: which events are failed tries; `byteMeans` reads the byte
 abbrev pub isFailed : till.Meaning → Bool
 isFailed till.failed = true
-isFailed (till.goesOn place) = false
+isFailed (till.goesOn ear) = false
 isFailed (till.answers m) = false
 
-abbrev pub fails : (seq code : ℕ) → Place → till.Happening → Bool
-fails seq code place (till.command other content) = false
-fails seq code place (till.byte b) = isFailed (till.byteMeans seq code place b)
-fails seq code place till.timeout = true
+abbrev pub fails : (seq code : ℕ) → till.Ear → till.Happening → Bool
+fails seq code ear (till.command other content) = false
+fails seq code ear (till.byte b) = isFailed (till.byteMeans seq code ear b)
+fails seq code ear till.timeout = true
 
 abbrev pub isWaiting : till.Pending → Bool
 isWaiting till.idle = false
-isWaiting (till.waits seq code bytes tries place) = true
+isWaiting (till.waits seq code bytes tries ear) = true
 
 -- PROTOCOL 7.2: another command waits, CMD is below 20h, there are more than 200 data bytes, or one that may not stand there
 abbrev pub unsendable : till.State → ℕ → List ℕ → Bool
@@ -57,9 +56,9 @@ unsendable s code content = isWaiting (s .pending) || not (sendable Command (com
 abbrev pub noneWaits : till.State → till.State
 noneWaits s = record { next = s .next; pending = till.idle }
 
--- PROTOCOL 8.5: a command that waits: its SEQ, CMD and frame, how often the frame was handed out, and where reading of its answer stands
-abbrev pub waitsOn : till.State → (seq code : ℕ) → List ℕ → ℕ → Place → till.State
-waitsOn s seq code bytes tries place = record { next = s .next; pending = till.waits seq code bytes tries place }
+-- PROTOCOL 8.5: a command that waits: its SEQ, CMD and frame, how often the frame was handed out, and what the last try has heard
+abbrev pub waitsOn : till.State → (seq code : ℕ) → List ℕ → ℕ → till.Ear → till.State
+waitsOn s seq code bytes tries ear = record { next = s .next; pending = till.waits seq code bytes tries ear }
 
 -- PROTOCOL 2.1, at the till end
 pub data ByTill (s : till.State) (buffer : List ℕ) : till.Happening → FromTill → Type 0 where
@@ -69,18 +68,18 @@ pub data ByTill (s : till.State) (buffer : List ℕ) : till.Happening → FromTi
   row-0-sent : (code : ℕ) (content : List ℕ) (bytes : List ℕ) → 210 ≤ length buffer → unsendable s code content ≡ false
       → bytes ≡ frame Command (commandOf (s .next) code content)
       → ByTill s buffer (till.command code content)
-      (replies 0 (Waiting (length bytes)) (length bytes) bytes buffer (record { next = till.seqAfter (s .next); pending = till.waits (s .next) code bytes 1 outside }))
+      (replies 0 (Waiting (length bytes)) (length bytes) bytes buffer (record { next = till.seqAfter (s .next); pending = till.waits (s .next) code bytes 1 till.freshEar }))
   -- 0, Waiting: a byte with which reading goes on (7.5)
-  row-0-byte : (b seq code : ℕ) (bytes : List ℕ) (tries : ℕ) (place next : Place) → 210 ≤ length buffer → s .pending ≡ till.waits seq code bytes tries place
-      → till.byteMeans seq code place b ≡ till.goesOn next
+  row-0-byte : (b seq code : ℕ) (bytes : List ℕ) (tries : ℕ) (ear next : till.Ear) → 210 ≤ length buffer → s .pending ≡ till.waits seq code bytes tries ear
+      → till.byteMeans seq code ear b ≡ till.goesOn next
       → ByTill s buffer (till.byte b) (replies 0 (Waiting 0) 0 [] buffer (waitsOn s seq code bytes tries next))
   -- 0, Send again: a failed try before the fifth; the same frame, and reading begins afresh (7.6)
-  row-0-again : {h : till.Happening} (seq code : ℕ) (bytes : List ℕ) (tries : ℕ) (place : Place) → 210 ≤ length buffer
-      → s .pending ≡ till.waits seq code bytes tries place → fails seq code place h ≡ true → tries < 5
-      → ByTill s buffer h (replies 0 (SendAgain (length bytes)) (length bytes) bytes buffer (waitsOn s seq code bytes (tries + 1) outside))
+  row-0-again : {h : till.Happening} (seq code : ℕ) (bytes : List ℕ) (tries : ℕ) (ear : till.Ear) → 210 ≤ length buffer
+      → s .pending ≡ till.waits seq code bytes tries ear → fails seq code ear h ≡ true → tries < 5
+      → ByTill s buffer h (replies 0 (SendAgain (length bytes)) (length bytes) bytes buffer (waitsOn s seq code bytes (tries + 1) till.freshEar))
   -- 0, Answered: a whole answer with the command's SEQ and CMD; its data, then its six status bytes (7.1), and no command waits any more (7.7)
-  row-0-answered : (b seq code : ℕ) (bytes : List ℕ) (tries : ℕ) (place : Place) (m : Message) → 210 ≤ length buffer
-      → s .pending ≡ till.waits seq code bytes tries place → till.byteMeans seq code place b ≡ till.answers m
+  row-0-answered : (b seq code : ℕ) (bytes : List ℕ) (tries : ℕ) (ear : till.Ear) (m : Message) → 210 ≤ length buffer
+      → s .pending ≡ till.waits seq code bytes tries ear → till.byteMeans seq code ear b ≡ till.answers m
       → ByTill s buffer (till.byte b)
       (replies 0 (Answered (length (m .content ++ m .status))) (length (m .content ++ m .status)) (m .content ++ m .status) buffer (noneWaits s))
   -- 7, less than 210 bytes lent: nothing is given back; the byte, timeout or command is not taken, and everything stays (2.4)
@@ -89,6 +88,6 @@ pub data ByTill (s : till.State) (buffer : List ℕ) : till.Happening → FromTi
   row-8 : (code : ℕ) (content : List ℕ) → 210 ≤ length buffer → unsendable s code content ≡ true
       → ByTill s buffer (till.command code content) (replies 8 NotSent 0 [] buffer s)
   -- 9, Unfinished: the fifth try fails; the number of tries, 5, and the command is given up (7.6)
-  row-9 : {h : till.Happening} (seq code : ℕ) (bytes : List ℕ) (place : Place) → 210 ≤ length buffer
-      → s .pending ≡ till.waits seq code bytes 5 place → fails seq code place h ≡ true
+  row-9 : {h : till.Happening} (seq code : ℕ) (bytes : List ℕ) (ear : till.Ear) → 210 ≤ length buffer
+      → s .pending ≡ till.waits seq code bytes 5 ear → fails seq code ear h ≡ true
       → ByTill s buffer h (replies 9 (Unfinished 5) 5 [] buffer (noneWaits s))

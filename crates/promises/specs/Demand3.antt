@@ -5,7 +5,7 @@ use mathlib.Core.List.{List, [], _∷_, _++_, map}
 use Rattle.wire.specs.Frame.{Message}
 use Rattle.tries.specs.Tries.{Arrival, mayArrive, arriving}
 use Rattle.delivery.specs.Delivery.{isWhole, Sent, any}
-use Rattle.till.specs.Handed.{Handed}
+use Rattle.attempts.specs.Handed.{Handed}
 
 -- PROTOCOL 9.1: each frame handed out arrives in one way, and there is one for each
 abbrev pub eachArrives : List (List ℕ) → List Arrival → Bool

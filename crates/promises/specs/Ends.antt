@@ -5,7 +5,6 @@ use mathlib.Core.Bool.{true, false}
 use mathlib.Core.List.{List, [], _∷_}
 use lib.ListN.{length}
 use Rattle.wire.specs.Frame.{Message}
-use Rattle.reader.specs.Reading.{Place}
 use Rattle.books.specs.Sound.{sound}
 use Rattle.store.specs.Store.{Store}
 use Rattle.kinds.specs.declared.Command.{Command}
@@ -45,6 +44,6 @@ pub data Beyond (s : Bench) : Comes → Outcome → Type 0 where
       (fromDevice
       (tells 4 (answerWith m [] 0xA0 0x83 (s .device .store .books)) lent
       (remembers (s .device) byte m (answerWith m [] 0xA0 0x83 (s .device .store .books)) (s .device .store))))
-  more-tries : {buffer : List ℕ} {h : till.Happening} (seq code : ℕ) (bytes : List ℕ) (tries : ℕ) (place : Place) → 210 ≤ length buffer
-      → s .till .pending ≡ till.waits seq code bytes tries place → fails seq code place h ≡ true → 5 < tries
+  more-tries : {buffer : List ℕ} {h : till.Happening} (seq code : ℕ) (bytes : List ℕ) (tries : ℕ) (ear : till.Ear) → 210 ≤ length buffer
+      → s .till .pending ≡ till.waits seq code bytes tries ear → fails seq code ear h ≡ true → 5 < tries
       → Beyond s (atTill buffer h) (fromTill (replies 9 (Unfinished tries) tries [] buffer (noneWaits (s .till))))

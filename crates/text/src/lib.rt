@@ -1,9 +1,34 @@
-// Putting bytes and digit fields into a lent buffer. A byte whose place lies past the buffer's end is not written, so no
-// place is wrong and no function here asks anything of its caller.
+// Looking for a byte in lent data, and putting bytes and digit fields into a lent buffer. A byte whose place lies past the buffer's end is
+// not written, so no place is wrong and no function here asks anything of its caller.
 ghost use mathlib.Core.Path.{_≡_};
 ghost use lib.ListN.{set};
 ghost use lib.Seq.{sets};
 ghost use Rattle.text.specs.Digits.{digits};
+ghost use Rattle.text.specs.Parts.{firstAt, begins};
+
+// The place of the first `b`, or the length where there is none.
+pub fn find(s: &[u8], b: u8) -> usize
+    ensures { λ r. ⌜ r ≡ firstAt b (now (s .entry)) ⌝ }
+{
+    let mut i = 0;
+    while i < s.len() {
+        if s[i] == b {
+            return i;
+        }
+        i += 1;
+    }
+    i
+}
+
+// Whether the first byte is `b`.
+pub fn begins_with(s: &[u8], b: u8) -> bool
+    ensures { λ r. ⌜ r ≡ begins b (now (s .entry)) ⌝ }
+{
+    if s.len() == 0 {
+        return false;
+    }
+    s[0] == b
+}
 
 // One byte at a place of the buffer.
 pub fn put_byte(buf: &mut [u8], at: usize, b: u8)

@@ -1,12 +1,3 @@
 pub mod Hearing
 pub mod Turning
 pub mod Outer
-pub mod Seeing
-pub mod Answers
-pub mod Tries
-pub mod Room
-pub mod Frames
-pub mod Following
-pub mod Examples
-pub mod Handing
-pub mod Fifth

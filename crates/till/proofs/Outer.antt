@@ -2,7 +2,7 @@
 use mathlib.Core.Path.{_≡_, refl, sym, ap, _∙_}
 use mathlib.Core.Bool.{Bool, true, false, cond}
 use mathlib.Core.List.{List}
-use Prim.Native.Nat.{ℕ, _+_, _≤_, _<_}
+use Prim.Native.Nat.{ℕ, _≤_, _<_}
 use native.Mathlib.Omega.{arith}
 use lib.Dec.{ltb}
 use lib.ListN.{length, take}
@@ -17,19 +17,21 @@ use Rattle.wire.specs.declared.Kind.the-variants.{Command}
 use Rattle.wire.proofs.Building.{can, cannot}
 use Rattle.reader.specs.Reading.{outside, inside}
 use Rattle.reader.proofs.RoundTrip.{frame-size}
-use Rattle.reader.specs.Fields.{placeOf, readerOf, keptIn}
+use Rattle.reader.specs.Fields.{placeOf, keptIn}
 use Rattle.reader.specs.declared.Reader.{Reader}
 use Rattle.till.specs.Words.{numberOf}
-use Rattle.till.specs.Turns.{idle, waits, Turn, Happening, command, byte, timeout, Meaning, failed, goesOn, answers, stays, gives, onMeaning, onByte, onTimeout, onCommand, sent, seqAfter, takes}
-use Rattle.till.specs.Fields.{pendingOf, stateOf, slotOf, tillOf, framed, heldIn, refused, saidOf, turnOf}
+use Rattle.till.specs.Turns.{freshEar, idle, Turn, Happening, command, byte, timeout, Meaning, failed, goesOn, answers, stays, onMeaning, onByte, onTimeout, onCommand, sent, seqAfter, takes}
+use Rattle.till.specs.Fields.{earOf, pendingOf, stateOf, slotOf, tillOf, framed, heldIn, refused, saidOf, turnOf}
 use Rattle.till.specs.Private.{spoken, failedBy, heardBy, sentBy}
+use Rattle.till.proofs.Turning.{failsBy}
 use Rattle.till.specs.declared.Attempt.{Attempt}
+use Rattle.till.specs.declared.Ear.{Ear as EarFields}
 use Rattle.till.specs.declared.Said.{Said}
 use Rattle.till.specs.declared.Slot.{Slot}
 use Rattle.till.specs.declared.Slot.the-variants.{Free, Held}
 use Rattle.till.specs.declared.Till.{Till}
 use Rattle.till.specs.declared.Word.{Word}
-use Rattle.till.specs.declared.Word.the-variants.{Idle, Waiting, SendAgain, Unfinished, TooShort, NotSent}
+use Rattle.till.specs.declared.Word.the-variants.{Idle, Waiting, TooShort, NotSent}
 
 -- what the arrays hold already is what they hold
 kept-same : (r : Reader) (answer : List ℕ) → answer ≡ keptIn answer (placeOf r answer)
@@ -41,7 +43,7 @@ kept-same r answer = go (r .inside)
 
 pub read-same : (s : Slot) (frame answer : List ℕ) → answer ≡ heldIn answer (pendingOf s frame answer)
 read-same Free frame answer = refl
-read-same (Held a) frame answer = kept-same (a .reader) answer
+read-same (Held a) frame answer = kept-same (a .ear .reader) answer
 
 pub framed-same : (s : Slot) (frame answer : List ℕ) → frame ≡ framed frame (pendingOf s frame answer)
 framed-same Free frame answer = refl
@@ -91,11 +93,10 @@ idle-stays t frame answer e =
 pub not-refused : (next seq code : ℕ) (bytes : List ℕ) (tries : ℕ) (m : Meaning) → refused (numberOf (onMeaning next seq code bytes tries m .word)) ≡ false
 not-refused next seq code bytes tries failed = go (ltb tries 5)
   where
-    go : (s : Bool) → refused (numberOf (cond s (gives SendAgain bytes (record { next = next; pending = waits seq code bytes (tries + 1) outside }))
-        (stays (Unfinished tries) (record { next = next; pending = idle })) .word)) ≡ false
+    go : (early : Bool) → refused (numberOf (failsBy next seq code bytes tries early .word)) ≡ false
     go true = refl
     go false = refl
-not-refused next seq code bytes tries (goesOn place) = refl
+not-refused next seq code bytes tries (goesOn ear) = refl
 not-refused next seq code bytes tries (answers m) = refl
 
 pub said-on : (t : Till) (next seq code : ℕ) (bytes : List ℕ) (tries : ℕ) (m : Meaning)
@@ -178,8 +179,8 @@ module _ (next code : ℕ) (content array : List ℕ) (size : length array ≡ 2
 
   -- sent: the frame that is handed out is the one that is held
   pub says-sent : sendable Command m ≡ true → (n : ℕ) → n ≡ length (frame Command m) → (after buf buf' : List ℕ) → after ≡ sets array 0 (frame Command m)
-      → buf' ≡ sets buf 0 (take n after) → (up : ℕ) → up ≡ seqAfter next → (start : Reader) → start ≡ readerOf outside
-      → (record { till = record { next = up; slot = Held (record { seq = next; code = code; tries = 1; count = n; reader = start }) }; word = Waiting n } ≡ spoken (sentBy next code content))
+      → buf' ≡ sets buf 0 (take n after) → (up : ℕ) → up ≡ seqAfter next → (start : EarFields) → start ≡ earOf freshEar
+      → (record { till = record { next = up; slot = Held (record { seq = next; code = code; tries = 1; count = n; ear = start }) }; word = Waiting n } ≡ spoken (sentBy next code content))
       × ((after ≡ framed array (sentBy next code content .state .pending)) × (buf' ≡ sets buf 0 (sentBy next code content .puts)))
   says-sent e n count after buf buf' ea eb up eu start es =
       let turn : sentBy next code content ≡ sent next m = ap (bySendable next m) e in
@@ -187,7 +188,7 @@ module _ (next code : ℕ) (content array : List ℕ) (size : length array ≡ 2
       let held : take n after ≡ frame Command m =
       ap (take n) (ea ∙ sets-eq (frame Command m) array 0 (omega arith)) ∙ take-at (frame Command m) _ n (sym count) in (
         (λ i. record {
-          till = record { next = eu i; slot = Held (record { seq = next; code = code; tries = 1; count = count i; reader = es i }) };
+          till = record { next = eu i; slot = Held (record { seq = next; code = code; tries = 1; count = count i; ear = es i }) };
           word = Waiting (count i);
         }) ∙ ap spoken (sym turn),
         (ea ∙ ap (λ (z : Turn). framed array (z .state .pending)) (sym turn), eb ∙ ap (sets buf 0) held ∙ ap (λ (z : Turn). sets buf 0 (z .puts)) (sym turn)),

@@ -17,10 +17,11 @@ use Rattle.reader.specs.Reading.{Place, outside, inside, Event, nothing, broken
 use Rattle.reader.specs.Fields.{placeOf, readerOf, keptIn}
 use Rattle.reader.specs.declared.Reader.{Reader}
 use Rattle.reader.specs.declared.Taken.{Taken}
-use Rattle.till.specs.Turns.{idle, waits, Turn, Meaning, failed, goesOn, answers, stays, gives, nakOutside, readAs, onMeaning}
-use Rattle.till.specs.Fields.{heldIn}
+use Rattle.till.specs.Turns.{Ear, freshEar, earAfter, idle, waits, Turn, Meaning, failed, goesOn, answers, stays, gives, nakOutside, readAs, onMeaning}
+use Rattle.till.specs.Fields.{earIn, earOf, heldIn}
 use Rattle.till.specs.Private.{spoken, failedBy, heardBy}
 use Rattle.till.specs.declared.Attempt.{Attempt}
+use Rattle.till.specs.declared.Ear.{Ear as EarFields}
 use Rattle.till.specs.declared.Said.{Said}
 use Rattle.till.specs.declared.Slot.the-variants.{Free, Held}
 use Rattle.till.specs.declared.Word.the-variants.{Waiting, SendAgain, Answered, Unfinished}
@@ -79,27 +80,30 @@ stands r answer b m size fits e =
 pub length-status : (answer : List ℕ) (n : ℕ) → n + 10 ≤ length answer → length (take 6 (drop (4 + n) answer)) ≡ 6
 length-status answer n h = length-take-le 6 (drop (4 + n) answer) (omega (arith, length-drop (4 + n) answer))
 
--- a failed try
+-- a failed try, by whether it comes before the fifth
+abbrev pub failsBy : (next seq code : ℕ) → List ℕ → ℕ → Bool → Turn
+failsBy next seq code bytes tries early =
+    cond early (gives SendAgain bytes (record { next = next; pending = waits seq code bytes (tries + 1) freshEar }))
+    (stays (Unfinished tries) (record { next = next; pending = idle }))
+
 module _ (next : ℕ) (a : Attempt) (frame : List ℕ) where
-  pub fails-early : a .tries < 5
-      → failedBy next a frame ≡ gives SendAgain (take (a .count) frame) (record { next = next; pending = waits (a .seq) (a .code) (take (a .count) frame) (a .tries + 1) outside })
-  fails-early h =
-      ap (λ s. cond s (gives SendAgain (take (a .count) frame) (record { next = next; pending = waits (a .seq) (a .code) (take (a .count) frame) (a .tries + 1) outside }))
-      (stays (Unfinished (a .tries)) (record { next = next; pending = idle }))) (lt-ltb (a .tries) 5 h)
+  abbrev fails : Bool → Turn
+  fails early = failsBy next (a .seq) (a .code) (take (a .count) frame) (a .tries) early
 
-  pub fails-last : 5 ≤ a .tries → failedBy next a frame ≡ stays (Unfinished (a .tries)) (record { next = next; pending = idle })
-  fails-last h =
-      ap (λ s. cond s (gives SendAgain (take (a .count) frame) (record { next = next; pending = waits (a .seq) (a .code) (take (a .count) frame) (a .tries + 1) outside }))
-      (stays (Unfinished (a .tries)) (record { next = next; pending = idle }))) (le-ltb (a .tries) 5 h)
+  fails-early : a .tries < 5 → failedBy next a frame ≡ fails true
+  fails-early h = ap fails (lt-ltb (a .tries) 5 h)
 
-  pub says-again : a .tries < 5 → length frame ≡ 256 → a .count < 256 → (start : Reader) → start ≡ readerOf outside → (buf buf' : List ℕ)
+  fails-last : 5 ≤ a .tries → failedBy next a frame ≡ fails false
+  fails-last h = ap fails (le-ltb (a .tries) 5 h)
+
+  pub says-again : a .tries < 5 → length frame ≡ 256 → a .count < 256 → (start : EarFields) → start ≡ earOf freshEar → (buf buf' : List ℕ)
       → buf' ≡ sets buf 0 (take (a .count) frame)
-      → (record { till = record { next = next; slot = Held (record { seq = a .seq; code = a .code; tries = a .tries + 1; count = a .count; reader = start }) }; word = SendAgain (a .count) }
+      → (record { till = record { next = next; slot = Held (record { seq = a .seq; code = a .code; tries = a .tries + 1; count = a .count; ear = start }) }; word = SendAgain (a .count) }
       ≡ spoken (failedBy next a frame)) × (buf' ≡ sets buf 0 (failedBy next a frame .puts))
   says-again h size fits start e buf buf' q =
       let long : a .count ≡ length (take (a .count) frame) = sym (length-take-le (a .count) frame (omega arith)) in (
         (λ i. record {
-          till = record { next = next; slot = Held (record { seq = a .seq; code = a .code; tries = a .tries + 1; count = long i; reader = e i }) };
+          till = record { next = next; slot = Held (record { seq = a .seq; code = a .code; tries = a .tries + 1; count = long i; ear = e i }) };
           word = SendAgain (long i);
         }) ∙ ap spoken (sym (fails-early h)),
         q ∙ ap (λ (z : Turn). sets buf 0 (z .puts)) (sym (fails-early h)),
@@ -113,8 +117,7 @@ module _ (next : ℕ) (a : Attempt) (frame : List ℕ) where
   pub fails-keeps : (answer : List ℕ) → answer ≡ heldIn answer (failedBy next a frame .state .pending)
   fails-keeps answer = go (ltb (a .tries) 5)
     where
-      go : (s : Bool) → answer ≡ heldIn answer (cond s (gives SendAgain (take (a .count) frame) (record { next = next; pending = waits (a .seq) (a .code) (take (a .count) frame) (a .tries + 1) outside }))
-          (stays (Unfinished (a .tries)) (record { next = next; pending = idle })) .state .pending)
+      go : (early : Bool) → answer ≡ heldIn answer (fails early .state .pending)
       go true = refl
       go false = refl
 
@@ -134,29 +137,32 @@ nak-is r answer b = go (r .inside)
 
 module _ (next : ℕ) (a : Attempt) (frame answer : List ℕ) (b : ℕ) where
   abbrev at : Place
-  at = placeOf (a .reader) answer
+  at = placeOf (a .ear .reader) answer
+
+  abbrev after : Ear
+  after = earAfter (earIn (a .ear) answer) b
 
   abbrev turn : Meaning → Turn
   turn means = onMeaning next (a .seq) (a .code) (take (a .count) frame) (a .tries) means
 
   pub hear-nak : nakOutside at b ≡ true → heardBy next a frame answer b ≡ failedBy next a frame
-  hear-nak e = ap (λ s. turn (cond s failed (readAs (a .seq) (a .code) b (read Answer at b .place) (read Answer at b .event)))) e
+  hear-nak e = ap (λ s. turn (cond s failed (readAs (a .seq) (a .code) b after (read Answer at b .event)))) e
 
   hear-by : nakOutside at b ≡ false → (e : Event) → read Answer at b .event ≡ e
-      → heardBy next a frame answer b ≡ turn (readAs (a .seq) (a .code) b (read Answer at b .place) e)
+      → heardBy next a frame answer b ≡ turn (readAs (a .seq) (a .code) b after e)
   hear-by n e h =
-      ap (λ s. turn (cond s failed (readAs (a .seq) (a .code) b (read Answer at b .place) (read Answer at b .event)))) n
-      ∙ ap (λ z. turn (readAs (a .seq) (a .code) b (read Answer at b .place) z)) h
+      ap (λ s. turn (cond s failed (readAs (a .seq) (a .code) b after (read Answer at b .event)))) n
+      ∙ ap (λ z. turn (readAs (a .seq) (a .code) b after z)) h
 
   module _ (n : nakOutside at b ≡ false) where
-    pub hear-nothing : read Answer at b .event ≡ nothing → heardBy next a frame answer b ≡ turn (goesOn (read Answer at b .place))
+    pub hear-nothing : read Answer at b .event ≡ nothing → heardBy next a frame answer b ≡ turn (goesOn after)
     hear-nothing h = hear-by n nothing h
 
-    pub hear-anew : read Answer at b .event ≡ brokenFrame → b ≡ 0x01 → heardBy next a frame answer b ≡ turn (goesOn (read Answer at b .place))
-    hear-anew h e = hear-by n brokenFrame h ∙ ap (λ s. turn (cond s (goesOn (read Answer at b .place)) failed)) (eq-eqb b 0x01 e)
+    pub hear-anew : read Answer at b .event ≡ brokenFrame → b ≡ 0x01 → heardBy next a frame answer b ≡ turn (goesOn after)
+    hear-anew h e = hear-by n brokenFrame h ∙ ap (λ s. turn (cond s (goesOn after) failed)) (eq-eqb b 0x01 e)
 
     pub hear-broken : read Answer at b .event ≡ brokenFrame → (b ≡ 0x01 → ⊥) → heardBy next a frame answer b ≡ failedBy next a frame
-    hear-broken h e = hear-by n brokenFrame h ∙ ap (λ s. turn (cond s (goesOn (read Answer at b .place)) failed)) (ne-eqb b 0x01 e)
+    hear-broken h e = hear-by n brokenFrame h ∙ ap (λ s. turn (cond s (goesOn after) failed)) (ne-eqb b 0x01 e)
 
     module _ (m : Message) (h : read Answer at b .event ≡ heard m) where
       abbrev by-tests : Bool → Bool → Turn
@@ -176,13 +182,13 @@ module _ (next : ℕ) (a : Attempt) (frame answer : List ℕ) (b : ℕ) where
           ∙ ap (λ s. by-tests true s) (eq-eqb (m .code) (a .code) c)
 
   -- Waiting: one byte more of an answer
-  pub goes-on : length frame ≡ 256 → a .count < 256 → (place : Place) (taken : Taken) → taken .reader ≡ readerOf place
-      → record { till = record { next = next; slot = Held (record { seq = a .seq; code = a .code; tries = a .tries; count = a .count; reader = taken .reader }) }; word = Waiting 0 }
-      ≡ spoken (turn (goesOn place))
-  goes-on size fits place taken e =
+  pub goes-on : length frame ≡ 256 → a .count < 256 → (taken : Taken) → taken .reader ≡ readerOf (after .place)
+      → record { till = record { next = next; slot = Held (record { seq = a .seq; code = a .code; tries = a .tries; count = a .count; ear = record { reader = taken .reader } }) }; word = Waiting 0 }
+      ≡ spoken (turn (goesOn after))
+  goes-on size fits taken e =
       let long : a .count ≡ length (take (a .count) frame) = sym (length-take-le (a .count) frame (omega arith)) in
       λ i. record {
-        till = record { next = next; slot = Held (record { seq = a .seq; code = a .code; tries = a .tries; count = long i; reader = e i }) };
+        till = record { next = next; slot = Held (record { seq = a .seq; code = a .code; tries = a .tries; count = long i; ear = record { reader = e i } }) };
         word = Waiting 0;
       }
 

@@ -2,9 +2,8 @@
 use Prim.Native.Nat.{ℕ}
 use mathlib.Core.List.{List}
 use lib.ListN.{take}
-use Rattle.reader.specs.Fields.{placeOf}
 use Rattle.till.specs.Turns.{idle, Turn, failsTry, byteMeans, onMeaning, onCommand}
-use Rattle.till.specs.Fields.{tillOf}
+use Rattle.till.specs.Fields.{earIn, tillOf}
 use Rattle.till.specs.declared.Attempt.{Attempt}
 use Rattle.till.specs.declared.Said.{Said}
 
@@ -18,7 +17,7 @@ failedBy next a frame = failsTry next (a .seq) (a .code) (take (a .count) frame)
 
 abbrev pub heardBy : ℕ → Attempt → (frame answer : List ℕ) → ℕ → Turn
 heardBy next a frame answer b =
-    onMeaning next (a .seq) (a .code) (take (a .count) frame) (a .tries) (byteMeans (a .seq) (a .code) (placeOf (a .reader) answer) b)
+    onMeaning next (a .seq) (a .code) (take (a .count) frame) (a .tries) (byteMeans (a .seq) (a .code) (earIn (a .ear) answer) b)
 
 abbrev pub sentBy : ℕ → ℕ → List ℕ → Turn
 sentBy next code content = onCommand (record { next = next; pending = idle }) idle code content

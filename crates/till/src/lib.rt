@@ -11,11 +11,31 @@ ghost use lib.Dec.{eqb};
 ghost use lib.ListN.{length, take, drop};
 ghost use lib.Seq.{sets};
 ghost use Rattle.till.specs.Words.{numberOf, countOf};
-ghost use Rattle.till.specs.Turns.{command, byte, timeout, freshState, seqAfter};
-ghost use Rattle.till.specs.Fields.{tillOf, framed, heldIn, saidOf, turnOf};
+ghost use Rattle.till.specs.Turns.{command, byte, timeout, freshEar, freshState, seqAfter};
+ghost use Rattle.till.specs.Fields.{earOf, tillOf, framed, heldIn, saidOf, turnOf};
 ghost use Rattle.till.specs.Private.{spoken, failedBy, heardBy, sentBy};
 ghost use Rattle.till.specs.declared.Slot.the-variants.{Free, Held};
 ghost use Rattle.till.specs.declared.Word.the-variants.{Waiting, Answered, NotSent};
+
+// PROTOCOL 7.6: as often as a frame is handed out at most.
+pub const MOST_TRIES: u8 = 5;
+
+// PROTOCOL 2.4: as many bytes as the caller lends at least: the longest frame that the till end builds.
+pub const LEAST_LENT: usize = 210;
+
+// PROTOCOL 1.2: any frame has room here, of a command or of an answer, and its bytes are counted in one byte.
+pub const FRAME_ROOM: usize = 256;
+
+// PROTOCOL 7.3: the SEQ of the first command.
+const FIRST_SEQ: u8 = 0x20;
+
+// PROTOCOL 7.3: the last SEQ; behind it the first comes again.
+const LAST_SEQ: u8 = 0xFF;
+
+// What the try under way has heard. The answer's bytes so far stand at the front of a lent array.
+pub struct Ear {
+    pub reader: Reader,
+}
 
 // A command that waits. Its frame is the first `count` bytes of a lent array.
 pub struct Attempt {
@@ -23,7 +43,7 @@ pub struct Attempt {
     pub code: u8,
     pub tries: u8,
     pub count: u8,
-    pub reader: Reader,
+    pub ear: Ear,
 }
 
 // No command waits, or one does.
@@ -49,16 +69,18 @@ pub enum Word {
     NotSent,
 }
 
+// The till end after an event, and its word.
 pub struct Said {
     pub till: Till,
     pub word: Word,
 }
 
+// A till end with no command waiting.
 pub fn fresh() -> Till
     ensures { λ r. ⌜ r ≡ tillOf freshState ⌝ }
 {
     Till {
-        next: 0x20,
+        next: FIRST_SEQ,
         slot: Slot::Free,
     }
 }
@@ -94,12 +116,18 @@ pub fn count(word: Word) -> usize
 }
 
 // A command to be sent. The answer's array is not lent: nothing that it holds plays a part.
-pub fn command(till: Till, frame: &mut [u8; 256], code: u8, content: &[u8], buf: &mut [u8]) -> Said
+pub fn command(
+    till: Till,
+    frame: &mut [u8; FRAME_ROOM],
+    code: u8,
+    content: &[u8],
+    buf: &mut [u8],
+) -> Said
     ensures { λ r. ⌜ ((answer : List ℕ) → r ≡ saidOf till (turnOf till (now (frame .entry)) answer (now (buf .entry)) (command code (now (content .entry))))) ⌝ }
     ensures { λ r. ⌜ ((answer : List ℕ) → now (frame .exit) ≡ framed (now (frame .entry)) (turnOf till (now (frame .entry)) answer (now (buf .entry)) (command code (now (content .entry))) .state .pending)) ⌝ }
     ensures { λ r. ⌜ ((answer : List ℕ) → now (buf .exit) ≡ sets (now (buf .entry)) 0 (turnOf till (now (frame .entry)) answer (now (buf .entry)) (command code (now (content .entry))) .puts)) ⌝ }
 {
-    if buf.len() < 210 {
+    if buf.len() < LEAST_LENT {
         return Said {
             till,
             word: Word::TooShort,
@@ -116,7 +144,7 @@ pub fn command(till: Till, frame: &mut [u8; 256], code: u8, content: &[u8], buf:
 }
 
 // The frame is built in its own array, and handed out from there at every try.
-fn send(next: u8, frame: &mut [u8; 256], code: u8, content: &[u8], buf: &mut [u8]) -> Said
+fn send(next: u8, frame: &mut [u8; FRAME_ROOM], code: u8, content: &[u8], buf: &mut [u8]) -> Said
     ensures { λ r. ⌜ r ≡ spoken (sentBy next code (now (content .entry))) ⌝ }
     ensures { λ r. ⌜ now (frame .exit) ≡ framed (now (frame .entry)) (sentBy next code (now (content .entry)) .state .pending) ⌝ }
     ensures { λ r. ⌜ now (buf .exit) ≡ sets (now (buf .entry)) 0 (sentBy next code (now (content .entry)) .puts) ⌝ }
@@ -133,14 +161,14 @@ fn send(next: u8, frame: &mut [u8; 256], code: u8, content: &[u8], buf: &mut [u8
                 code,
                 tries: 1,
                 count,
-                reader: reader::fresh(),
+                ear: listen(),
             };
             held(seq_after(next), first, Word::Waiting(n))
         }
     }
 }
 
-// What is said where a command waits, and where none does.
+// What is said where a command waits.
 fn held(next: u8, a: Attempt, word: Word) -> Said
     ensures { λ r. ⌜ r ≡ record { till = record { next = next; slot = Held a }; word = word } ⌝ }
 {
@@ -153,6 +181,7 @@ fn held(next: u8, a: Attempt, word: Word) -> Said
     }
 }
 
+// What is said where no command waits.
 fn free(next: u8, word: Word) -> Said
     ensures { λ r. ⌜ r ≡ record { till = record { next = next; slot = Free }; word = word } ⌝ }
 {
@@ -165,11 +194,21 @@ fn free(next: u8, word: Word) -> Said
     }
 }
 
+// A try that begins has heard nothing.
+fn listen() -> Ear
+    ensures { λ r. ⌜ r ≡ earOf freshEar ⌝ }
+{
+    Ear {
+        reader: reader::fresh(),
+    }
+}
+
+// SEQ goes up by one and round.
 fn seq_after(seq: u8) -> u8
     ensures { λ r. ⌜ r ≡ seqAfter seq ⌝ }
 {
-    if seq == 0xFF {
-        return 0x20;
+    if seq == LAST_SEQ {
+        return FIRST_SEQ;
     }
     seq + 1
 }
@@ -184,12 +223,18 @@ fn hand_out(frame: &[u8], count: u8, buf: &mut [u8])
 }
 
 // A byte from the line.
-pub fn byte(till: Till, frame: &[u8; 256], answer: &mut [u8; 256], b: u8, buf: &mut [u8]) -> Said
+pub fn byte(
+    till: Till,
+    frame: &[u8; FRAME_ROOM],
+    answer: &mut [u8; FRAME_ROOM],
+    b: u8,
+    buf: &mut [u8],
+) -> Said
     ensures { λ r. ⌜ r ≡ saidOf till (turnOf till (now (frame .entry)) (now (answer .entry)) (now (buf .entry)) (byte b)) ⌝ }
     ensures { λ r. ⌜ now (answer .exit) ≡ heldIn (now (answer .entry)) (turnOf till (now (frame .entry)) (now (answer .entry)) (now (buf .entry)) (byte b) .state .pending) ⌝ }
     ensures { λ r. ⌜ now (buf .exit) ≡ sets (now (buf .entry)) 0 (turnOf till (now (frame .entry)) (now (answer .entry)) (now (buf .entry)) (byte b) .puts) ⌝ }
 {
-    if buf.len() < 210 {
+    if buf.len() < LEAST_LENT {
         return Said {
             till,
             word: Word::TooShort,
@@ -206,18 +251,27 @@ pub fn byte(till: Till, frame: &[u8; 256], answer: &mut [u8; 256], b: u8, buf: &
 }
 
 // A byte to a command that waits.
-fn hear(next: u8, a: Attempt, frame: &[u8], answer: &mut [u8; 256], b: u8, buf: &mut [u8]) -> Said
+fn hear(
+    next: u8,
+    a: Attempt,
+    frame: &[u8],
+    answer: &mut [u8; FRAME_ROOM],
+    b: u8,
+    buf: &mut [u8],
+) -> Said
     requires { ⌜ length (now frame) ≡ 256 ⌝ }
     ensures { λ r. ⌜ r ≡ spoken (heardBy next a (now (frame .entry)) (now (answer .entry)) b) ⌝ }
     ensures { λ r. ⌜ now (answer .exit) ≡ heldIn (now (answer .entry)) (heardBy next a (now (frame .entry)) (now (answer .entry)) b .state .pending) ⌝ }
     ensures { λ r. ⌜ now (buf .exit) ≡ sets (now (buf .entry)) 0 (heardBy next a (now (frame .entry)) (now (answer .entry)) b .puts) ⌝ }
 {
-    let reader = a.reader;
+    let ear = a.ear;
+    let reader = ear.reader;
     if nak_outside(reader.inside, b) {
         return failed_try(next, a, frame, buf);
     }
     let taken = reader::take_byte(Kind::Answer, reader, answer, b);
-    let after = taken.reader;
+    let reader = taken.reader;
+    let after = Ear { reader };
     let heard = taken.heard;
     match heard {
         Heard::Nothing => goes_on(next, a, after),
@@ -239,6 +293,7 @@ fn hear(next: u8, a: Attempt, frame: &[u8], answer: &mut [u8; 256], b: u8, buf: 
     }
 }
 
+// NAK, outside an answer.
 fn nak_outside(within: bool, b: u8) -> bool
     ensures { λ r. ⌜ r ≡ cond within false (eqb b 0x15) ⌝ }
 {
@@ -249,16 +304,16 @@ fn nak_outside(within: bool, b: u8) -> bool
 }
 
 // One byte more, of an answer or beside one. That the count is a byte is for its caller.
-fn goes_on(next: u8, a: Attempt, reader: Reader) -> Said
+fn goes_on(next: u8, a: Attempt, ear: Ear) -> Said
     ensures { λ r. ⌜ a .count < 256 ⌝ }
-    ensures { λ r. ⌜ r ≡ record { till = record { next = next; slot = Held (record { seq = a .seq; code = a .code; tries = a .tries; count = a .count; reader = reader }) }; word = Waiting 0 } ⌝ }
+    ensures { λ r. ⌜ r ≡ record { till = record { next = next; slot = Held (record { seq = a .seq; code = a .code; tries = a .tries; count = a .count; ear = ear }) }; word = Waiting 0 } ⌝ }
 {
     let more = Attempt {
         seq: a.seq,
         code: a.code,
         tries: a.tries,
         count: a.count,
-        reader,
+        ear,
     };
     held(next, more, Word::Waiting(0))
 }
@@ -285,14 +340,14 @@ fn failed_try(next: u8, a: Attempt, frame: &[u8], buf: &mut [u8]) -> Said
 {
     let tries = a.tries;
     let count = a.count;
-    if tries < 5 {
+    if tries < MOST_TRIES {
         hand_out(frame, count, buf);
         let again = Attempt {
             seq: a.seq,
             code: a.code,
             tries: tries + 1,
             count,
-            reader: reader::fresh(),
+            ear: listen(),
         };
         return held(next, again, Word::SendAgain(count as usize));
     }
@@ -300,11 +355,11 @@ fn failed_try(next: u8, a: Attempt, frame: &[u8], buf: &mut [u8]) -> Said
 }
 
 // No byte in time. The answer's array plays no part here either: a failed try leaves it.
-pub fn timeout(till: Till, frame: &[u8; 256], buf: &mut [u8]) -> Said
+pub fn timeout(till: Till, frame: &[u8; FRAME_ROOM], buf: &mut [u8]) -> Said
     ensures { λ r. ⌜ ((answer : List ℕ) → r ≡ saidOf till (turnOf till (now (frame .entry)) answer (now (buf .entry)) timeout)) ⌝ }
     ensures { λ r. ⌜ ((answer : List ℕ) → now (buf .exit) ≡ sets (now (buf .entry)) 0 (turnOf till (now (frame .entry)) answer (now (buf .entry)) timeout .puts)) ⌝ }
 {
-    if buf.len() < 210 {
+    if buf.len() < LEAST_LENT {
         return Said {
             till,
             word: Word::TooShort,

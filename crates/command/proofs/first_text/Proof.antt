@@ -1,3 +1,4 @@
+use mathlib.Core.Logic.{⊎-elim, inl, inr}
 use borrow.Author.Tests.{ne-eqb}
 use borrow.Author.Needs.{needs}
 use Rattle.command.proofs.first_text.Statement.{statement}
@@ -9,9 +10,6 @@ only-line-requires c κs = search needs
 first-line-requires : tie.Need-first-line-requires
 first-line-requires c κs = search needs
 
-first-line-requires-2 : tie.Need-first-line-requires-2
-first-line-requires-2 c κs = search needs
-
 slice-aggregate-result : tie.Need-slice-aggregate-result
 slice-aggregate-result c = search needs
 
@@ -19,15 +17,13 @@ returns : tie.Need-returns
 returns c = rw (c .before .match .keys1) (c .only-line .ensures)
 
 returns-2 : tie.Need-returns-2
-returns-2 c = rw (c .before .match .keys2) (c .first-line .ensures)
+returns-2 c = ⊎-elim (λ e. rw e (c .first-line .ensures)) (λ e. rw e (c .first-line .ensures)) (c .before .match .keys2)
 
 returns-3 : tie.Need-returns-3
-returns-3 c = rw (c .before .match .keys3) (c .first-line2 .ensures)
-
-returns-4 : tie.Need-returns-4
-returns-4 c =
+returns-3 c =
     let n = c .before .before .before .args .code in
-    rw (ne-eqb n 42 (c .before .match .rest .0 .0 .1), ne-eqb n 49 (c .before .match .rest .0 .1), ne-eqb n 53 (c .before .match .rest .1))
+    let two = c .before .match .rest .1 in
+    rw (ne-eqb n 42 (c .before .match .rest .0 .1), ne-eqb n 49 (λ e. two (inl e)), ne-eqb n 53 (λ e. two (inr e)))
 
 pub first-text-spec : {M : Type 1} → statement M
 first-text-spec =
@@ -35,9 +31,7 @@ first-text-spec =
     (tie.spec
     only-line-requires
     first-line-requires
-    first-line-requires-2
     slice-aggregate-result
     returns
     returns-2
-    returns-3
-    returns-4)
+    returns-3)

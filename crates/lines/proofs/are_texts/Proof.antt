@@ -4,7 +4,7 @@ use native.Mathlib.Omega.{arith}
 use denote.Ref.{now}
 use borrow.Author.Tests.{not-true, not-false}
 use Rattle.lines.specs.Texts.{isText}
-use Rattle.figures.proofs.Cutting.{place-within, cut-length, to-end}
+use Rattle.text.proofs.Cutting.{place-within, cut-length, to-end}
 use Rattle.lines.proofs.Tabs.{first-not, one-text, two-texts}
 use borrow.Author.Needs.{needs}
 use Rattle.lines.proofs.are_texts.Statement.{statement}

@@ -2,7 +2,7 @@ use mathlib.Core.Path.{sym, _∙_}
 use native.Mathlib.Omega.{arith}
 use denote.Ref.{now}
 use borrow.Author.Tests.{not-true, not-false}
-use Rattle.figures.proofs.Cutting.{place-within, cut-length}
+use Rattle.text.proofs.Cutting.{place-within, cut-length}
 use Rattle.lines.proofs.Tabs.{no-tab, no-texts, rest-at}
 use borrow.Author.Needs.{needs}
 use Rattle.lines.proofs.behind_tab.Statement.{statement}

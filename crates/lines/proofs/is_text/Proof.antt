@@ -12,6 +12,7 @@ use Rattle.lines.proofs.Tabs.{text-long, text-short}
 use Rattle.lines.proofs.is_text.Statement.{statement}
 use Rattle.lines.proofs.is_text.Tie as tie
 
+-- All bytes before i may stand in a text: what is left decides.
 abbrev Inv-loop : tie.InvT-loop
 Inv-loop s i₀ i = (i ≤ length s) × (isText s ≡ every (leb 0x20) (drop i s))
 

@@ -8,6 +8,7 @@ use Rattle.text.proofs.Laws.{copy-turn, copy-done}
 use Rattle.text.proofs.copy.Statement.{statement}
 use Rattle.text.proofs.copy.Tie as tie
 
+-- What of `src` is still to be copied, put behind what was, makes the whole copy.
 abbrev Inv-loop : tie.InvT-loop
 Inv-loop part₀ src i₀ part i = (i ≤ length src) × (sets part i (drop i src) ≡ sets part₀ 0 src)
 

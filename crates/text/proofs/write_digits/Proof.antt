@@ -9,6 +9,7 @@ use Rattle.text.proofs.Laws.{digits-turn}
 use Rattle.text.proofs.write_digits.Statement.{statement}
 use Rattle.text.proofs.write_digits.Tie as tie
 
+-- The digits still to be written, put before those that were, make the whole field.
 abbrev Inv-loop : tie.InvT-loop
 Inv-loop part₀ width n left₀ i₀ part left i = (i ≤ width) × (sets part 0 (digits i left) ≡ sets part₀ 0 (digits width n))
 

@@ -48,9 +48,10 @@ same-length c = search needs
 
 returns : tie.Need-returns
 returns c =
-    let s = c .before .before .before .before .before .before .before .before .before .before .before .before .before in
+    let first = c .before .before .before .before .before .before .before .before in
+    let s = first .before .before .before .before .before in
     let a = s .args in
-    (c .free .ensures, put-both (now (a .buf)) _ _ (now (a .answer)) (a .n) (s .pre) (c .before .before .before .before .before .before .before .before .put-bytes .ensures) (c .before .before .before .put-bytes2 .ensures))
+    (c .free .ensures, put-both (now (a .buf)) _ _ (now (a .answer)) (a .n) (s .pre) (first .put-bytes .ensures) (c .before .before .before .put-bytes2 .ensures))
 
 pub answered-spec : {M : Type 1} → statement M
 answered-spec =

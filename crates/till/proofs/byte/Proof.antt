@@ -1,8 +1,8 @@
 use mathlib.Core.Path.{refl, _∙_}
 use denote.Ref.{now}
 use lib.ListN.{take}
-use Rattle.reader.specs.Fields.{placeOf}
 use Rattle.till.specs.Turns.{byte, byteMeans}
+use Rattle.till.specs.Fields.{earIn}
 use Rattle.till.specs.declared.Word.the-variants.{Idle, TooShort}
 use Rattle.till.proofs.Outer.{too-short, byte-idle, byte-held, all-stays, idle-stays, read-same, said-on, says, puts, reads-in}
 use borrow.Author.Needs.{needs}
@@ -46,12 +46,13 @@ same-length c = search needs
 
 returns-3 : tie.Need-returns-3
 returns-3 c =
-    let a = c .before .before .before .before .before .before .before .before .before .before .before .args in
+    let known = c .before .before .before .before .before .before .before in
+    let a = known .before .before .before .before .args in
     let h = c .before .before .hear in
-    let x = c .before .before .before .before .before .before .before .slot .given .0 .0 in
-    let e = byte-held (a .till) (now (a .frame)) (now (a .answer)) (now (a .buf)) (c .before .before .before .before .before .before .before .before .before .if1 .left) (a .b) x (c .before .before .before .before .before .before .before .slot .given .1) in (
+    let x = known .slot .given .0 .0 in
+    let e = byte-held (a .till) (now (a .frame)) (now (a .answer)) (now (a .buf)) (known .before .before .if1 .left) (a .b) x (known .slot .given .1) in (
       says (a .till) (now (a .buf)) (now (a .buf)) (h .result) _ _ e
-          (h .ensures .0 ∙ said-on (a .till) (a .till .next) (x .seq) (x .code) (take (x .count) (now (a .frame))) (x .tries) (byteMeans (x .seq) (x .code) (placeOf (x .reader) (now (a .answer))) (a .b))),
+          (h .ensures .0 ∙ said-on (a .till) (a .till .next) (x .seq) (x .code) (take (x .count) (now (a .frame))) (x .tries) (byteMeans (x .seq) (x .code) (earIn (x .ear) (now (a .answer))) (a .b))),
       (
         reads-in (a .till) (now (a .buf)) (now (a .buf)) (h .result) _ _ e (now (a .answer)) _ (h .ensures .1 .0),
         puts (a .till) (now (a .buf)) _ (h .result) _ _ e (h .ensures .1 .1),

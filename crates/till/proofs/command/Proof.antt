@@ -41,13 +41,14 @@ same-length c = search needs
 
 returns-3 : tie.Need-returns-3
 returns-3 c =
-    let a = c .before .before .before .before .before .before .before .before .before .before .args in
+    let told = c .before .before .before .before .before in
+    let a = told .before .before .before .before .before .args in
     let h = c .before .before .send in
-    let free = c .before .before .before .before .before .enum-told .given .1 in (
-      λ answer. says (a .till) (now (a .buf)) (now (a .buf)) (h .result) _ _ (command-free (a .till) (now (a .frame)) answer (now (a .buf)) (c .before .before .before .before .before .before .before .if1 .left) (a .code) (now (a .content)) free) (h .ensures .0 ∙ said-sent (a .till) (a .code) (now (a .content)) free),
+    let free = told .enum-told .given .1 in (
+      λ answer. says (a .till) (now (a .buf)) (now (a .buf)) (h .result) _ _ (command-free (a .till) (now (a .frame)) answer (now (a .buf)) (told .before .before .if1 .left) (a .code) (now (a .content)) free) (h .ensures .0 ∙ said-sent (a .till) (a .code) (now (a .content)) free),
       (
-        λ answer. frames-in (a .till) (now (a .buf)) (now (a .buf)) (h .result) _ _ (command-free (a .till) (now (a .frame)) answer (now (a .buf)) (c .before .before .before .before .before .before .before .if1 .left) (a .code) (now (a .content)) free) (now (a .frame)) _ (h .ensures .1 .0),
-        λ answer. puts (a .till) (now (a .buf)) _ (h .result) _ _ (command-free (a .till) (now (a .frame)) answer (now (a .buf)) (c .before .before .before .before .before .before .before .if1 .left) (a .code) (now (a .content)) free) (h .ensures .1 .1),
+        λ answer. frames-in (a .till) (now (a .buf)) (now (a .buf)) (h .result) _ _ (command-free (a .till) (now (a .frame)) answer (now (a .buf)) (told .before .before .if1 .left) (a .code) (now (a .content)) free) (now (a .frame)) _ (h .ensures .1 .0),
+        λ answer. puts (a .till) (now (a .buf)) _ (h .result) _ _ (command-free (a .till) (now (a .frame)) answer (now (a .buf)) (told .before .before .if1 .left) (a .code) (now (a .content)) free) (h .ensures .1 .1),
       ),
     )
 

@@ -12,8 +12,8 @@ hand-out-requires c κs = search needs
 add-t12 : tie.Need-add-t12
 add-t12 c = search needs
 
-fresh-requires : tie.Need-fresh-requires
-fresh-requires c κs = search needs
+listen-requires : tie.Need-listen-requires
+listen-requires c κs = search needs
 
 cast-t14 : tie.Need-cast-t14
 cast-t14 c = search needs
@@ -28,7 +28,7 @@ returns : tie.Need-returns
 returns c =
     let s = c .before .before .before .before .before .before .before .before .before in
     let a = s .args in
-    let all = says-again (a .next) (a .a) (now (a .frame)) (c .before .before .before .before .before .before .if1 .taken) (s .pre) (omega arith) _ (c .before .fresh .ensures) (now (a .buf)) _ (c .before .before .before .before .hand-out .ensures) in
+    let all = says-again (a .next) (a .a) (now (a .frame)) (c .before .before .before .before .before .before .if1 .taken) (s .pre) (omega arith) _ (c .before .listen .ensures) (now (a .buf)) _ (c .before .before .before .before .hand-out .ensures) in
     (c .held .ensures ∙ all .0, all .1)
 
 cast-t16 : tie.Need-cast-t16
@@ -49,7 +49,7 @@ failed-try-spec =
     (tie.spec
     hand-out-requires
     add-t12
-    fresh-requires
+    listen-requires
     cast-t14
     held-requires
     same-length

@@ -38,8 +38,8 @@ cast-count c =
 hand-out-requires : tie.Need-hand-out-requires
 hand-out-requires c κs = search needs
 
-fresh-requires : tie.Need-fresh-requires
-fresh-requires c κs = search needs
+listen-requires : tie.Need-listen-requires
+listen-requires c κs = search needs
 
 seq-after-requires : tie.Need-seq-after-requires
 seq-after-requires c κs = search needs
@@ -66,10 +66,12 @@ same-length c = search needs
 
 returns-3 : tie.Need-returns-3
 returns-3 c =
-    let a = c .before .before .before .before .before .before .before .before .before .before .before .before .before .before .before .before .args in
+    let handed = c .before .before .before .before .before in
+    let made = handed .before .before .before .before .before in
+    let a = made .before .before .before .before .before .before .args in
     let size : length (now (a .frame)) ≡ 256 = omega arith in
-    let built = built-frame (a .next) (a .code) (now (a .content)) (now (a .frame)) size _ _ _ (c .before .before .before .before .before .before .before .before .before .before .built .given .1) (c .before .before .before .before .before .before .before .before .before .before .before .before .build-command .ensures) in
-    let all = says-sent (a .next) (a .code) (now (a .content)) (now (a .frame)) size (built .0) _ (built .1 .0) _ (now (a .buf)) _ (built .1 .1) (c .before .before .before .before .before .hand-out .ensures) _ (c .before .seq-after .ensures) _ (c .before .before .fresh .ensures) in
+    let built = built-frame (a .next) (a .code) (now (a .content)) (now (a .frame)) size _ _ _ (made .built .given .1) (made .before .before .build-command .ensures) in
+    let all = says-sent (a .next) (a .code) (now (a .content)) (now (a .frame)) size (built .0) _ (built .1 .0) _ (now (a .buf)) _ (built .1 .1) (handed .hand-out .ensures) _ (c .before .seq-after .ensures) _ (c .before .before .listen .ensures) in
     (c .held .ensures ∙ all .0, all .1)
 
 pub send-spec : {M : Type 1} → statement M
@@ -84,7 +86,7 @@ send-spec =
     enum-known-built
     cast-count
     hand-out-requires
-    fresh-requires
+    listen-requires
     seq-after-requires
     held-requires
     returns

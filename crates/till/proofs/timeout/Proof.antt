@@ -37,12 +37,13 @@ same-length c = search needs
 
 returns-3 : tie.Need-returns-3
 returns-3 c =
-    let a = c .before .before .before .before .before .before .before .before .before .before .args in
+    let known = c .before .before .before .before .before .before in
+    let a = known .before .before .before .before .args in
     let h = c .before .before .failed-try in
-    let x = c .before .before .before .before .before .before .slot .given .0 .0 in (
-      λ answer. says (a .till) (now (a .buf)) (now (a .buf)) (h .result) _ _ (timeout-held (a .till) (now (a .frame)) answer (now (a .buf)) (c .before .before .before .before .before .before .before .before .if1 .left) x (c .before .before .before .before .before .before .slot .given .1))
+    let x = known .slot .given .0 .0 in (
+      λ answer. says (a .till) (now (a .buf)) (now (a .buf)) (h .result) _ _ (timeout-held (a .till) (now (a .frame)) answer (now (a .buf)) (known .before .before .if1 .left) x (known .slot .given .1))
           (h .ensures .0 ∙ said-on (a .till) (a .till .next) (x .seq) (x .code) (take (x .count) (now (a .frame))) (x .tries) failed),
-      λ answer. puts (a .till) (now (a .buf)) _ (h .result) _ _ (timeout-held (a .till) (now (a .frame)) answer (now (a .buf)) (c .before .before .before .before .before .before .before .before .if1 .left) x (c .before .before .before .before .before .before .slot .given .1)) (h .ensures .1),
+      λ answer. puts (a .till) (now (a .buf)) _ (h .result) _ _ (timeout-held (a .till) (now (a .frame)) answer (now (a .buf)) (known .before .before .if1 .left) x (known .slot .given .1)) (h .ensures .1),
     )
 
 pub timeout-spec : {M : Type 1} → statement M

@@ -13,19 +13,15 @@ shared-slice-read-b : tie.Need-shared-slice-read-b
 shared-slice-read-b c = search needs
 
 returns-2 : tie.Need-returns-2
-returns-2 c =
-    let s = now (c .before .before .before .args .s) in
-    rw (one s (c .before .before .if1 .left)) (rw (c .if2 .taken))
+returns-2 c = rw (one (now (c .before .before .before .args .s)) (c .before .before .if1 .left)) (rw (c .match .keys1))
 
 returns-3 : tie.Need-returns-3
-returns-3 c =
-    let s = now (c .before .before .before .before .args .s) in
-    rw (one s (c .before .before .before .if1 .left)) (rw (c .if3 .taken))
+returns-3 c = rw (one (now (c .before .before .before .args .s)) (c .before .before .if1 .left)) (rw (c .match .keys2))
 
 returns-4 : tie.Need-returns-4
 returns-4 c =
-    let s = now (c .before .before .before .before .args .s) in
-    rw (one s (c .before .before .before .if1 .left)) (rw (ne-eqb (getD s 0 0) 0x30 (c .before .if2 .left), ne-eqb (getD s 0 0) 0x32 (c .if3 .left)))
+    let s = now (c .before .before .before .args .s) in
+    rw (one s (c .before .before .if1 .left)) (rw (ne-eqb (getD s 0 0) 0x30 (c .match .rest .0 .1), ne-eqb (getD s 0 0) 0x32 (c .match .rest .1)))
 
 pub closing-spec : {M : Type 1} → statement M
 closing-spec = tie.close (tie.spec returns shared-slice-read-b returns-2 returns-3 returns-4)

@@ -3,7 +3,7 @@ use mathlib.Core.Path.{_∙_}
 use Prim.Native.Nat.{_+_, _-_}
 use native.Mathlib.Omega.{arith}
 use denote.Ref.{now}
-use Rattle.figures.proofs.Cutting.{cut-length}
+use Rattle.text.proofs.Cutting.{cut-length}
 use Rattle.kinds.proofs.Forms.{found-ne, missed-eq, at-most, front, behind}
 use Rattle.kinds.specs.Fields.{comma}
 use Rattle.kinds.proofs.Openings.{no-comma, one-comma, two-commas}
@@ -80,12 +80,14 @@ open-with-requires c κs = search needs
 
 returns-3 : tie.Need-returns-3
 returns-3 c =
-    let s = now (c .before .before .before .before .before .before .before .before .before .before .args .s) in
-    let f = c .before .before .before .before .before .before .before .before .find in
-    let g = c .before .before .before .before .before .find2 in
+    let second = c .before .before .before .before .before in
+    let first = second .before .before .before in
+    let s = now (first .before .before .args .s) in
+    let f = first .find in
+    let g = second .find2 in
     let r = take (length s - (f .result + 1)) (drop (f .result + 1) s) in
     c .open-with .ensures
-    ∙ two-commas s r _ _ _ (behind comma s (f .result) (f .ensures)) (found-ne comma s (f .result) (f .ensures) (c .before .before .before .before .before .before .before .if1 .left)) (found-ne comma r (g .result) (g .ensures) (c .before .before .before .before .if2 .left))
+    ∙ two-commas s r _ _ _ (behind comma s (f .result) (f .ensures)) (found-ne comma s (f .result) (f .ensures) (second .before .before .if1 .left)) (found-ne comma r (g .result) (g .ensures) (c .before .before .before .before .if2 .left))
     (front comma s (f .result) (f .ensures)) (front comma r (g .result) (g .ensures)) (behind comma r (g .result) (g .ensures))
 
 pub open-receipt-spec : {M : Type 1} → statement M

@@ -1,6 +1,6 @@
 use mathlib.Core.Path.{sym, _∙_}
 use denote.Ref.{now}
-use Rattle.kinds.proofs.Openings.{no-op, no-password, no-till, op-low, op-high, password-short, opened}
+use Rattle.kinds.proofs.Openings.{no-op, no-password, no-till, opened, not-opened}
 use borrow.Author.Needs.{needs}
 use Rattle.kinds.proofs.plain.open_with.Statement.{statement}
 use Rattle.kinds.proofs.plain.open_with.Tie as tie
@@ -30,8 +30,9 @@ enum-told-2 c = search needs
 
 returns-2 : tie.Need-returns-2
 returns-2 c =
-    let a = c .before .before .before .before .before .before .before .before .before .before .args in
-    no-password (now (a .op)) (now (a .password)) (now (a .till)) _ (sym (c .before .before .before .before .before .before .digits .ensures) ∙ c .before .before .before .before .a .given .1) (sym (c .before .before .digits2 .ensures) ∙ c .enum-told2 .given .1)
+    let first = c .before .before .before .before in
+    let a = first .before .before .before .before .before .before .args in
+    no-password (now (a .op)) (now (a .password)) (now (a .till)) _ (sym (first .before .before .digits .ensures) ∙ first .a .given .1) (sym (c .before .before .digits2 .ensures) ∙ c .enum-told2 .given .1)
 
 digits-requires-3 : tie.Need-digits-requires-3
 digits-requires-3 c κs = search needs
@@ -44,32 +45,26 @@ enum-told-3 c = search needs
 
 returns-3 : tie.Need-returns-3
 returns-3 c =
-    let a = c .before .before .before .before .before .before .before .before .before .before .before .before .before .before .args in
-    no-till (now (a .op)) (now (a .password)) (now (a .till)) _ _ (sym (c .before .before .before .before .before .before .before .before .before .before .digits .ensures) ∙ c .before .before .before .before .before .before .before .before .a .given .1) (sym (c .before .before .before .before .before .before .digits2 .ensures) ∙ c .before .before .before .before .b .given .1) (sym (c .before .before .digits3 .ensures) ∙ c .enum-told3 .given .1)
+    let second = c .before .before .before .before in
+    let first = second .before .before .before .before in
+    let a = first .before .before .before .before .before .before .args in
+    no-till (now (a .op)) (now (a .password)) (now (a .till)) _ _ (sym (first .before .before .digits .ensures) ∙ first .a .given .1) (sym (second .before .before .digits2 .ensures) ∙ second .b .given .1) (sym (c .before .before .digits3 .ensures) ∙ c .enum-told3 .given .1)
 
 returns-4 : tie.Need-returns-4
 returns-4 c =
-    let a = c .before .before .before .before .before .before .before .before .before .before .before .before .before .before .before .before .args in
-    op-low (now (a .op)) (now (a .password)) (now (a .till)) _ _ _ (sym (c .before .before .before .before .before .before .before .before .before .before .before .before .digits .ensures) ∙ c .before .before .before .before .before .before .before .before .before .before .a .given .1) (sym (c .before .before .before .before .before .before .before .before .digits2 .ensures) ∙ c .before .before .before .before .before .before .b .given .1) (sym (c .before .before .before .before .digits3 .ensures) ∙ c .before .before .c .given .1)
-    (c .if1 .taken)
+    let third = c .before .before in
+    let second = third .before .before .before .before in
+    let first = second .before .before .before .before in
+    let a = first .before .before .before .before .before .before .args in
+    opened (now (a .op)) (now (a .password)) (now (a .till)) _ _ _ (sym (first .before .before .digits .ensures) ∙ first .a .given .1) (sym (second .before .before .digits2 .ensures) ∙ second .b .given .1) (sym (third .before .before .digits3 .ensures) ∙ third .c .given .1) (c .if1 .taken)
 
 returns-5 : tie.Need-returns-5
 returns-5 c =
-    let a = c .before .before .before .before .before .before .before .before .before .before .before .before .before .before .before .before .before .args in
-    op-high (now (a .op)) (now (a .password)) (now (a .till)) _ _ _ (sym (c .before .before .before .before .before .before .before .before .before .before .before .before .before .digits .ensures) ∙ c .before .before .before .before .before .before .before .before .before .before .before .a .given .1) (sym (c .before .before .before .before .before .before .before .before .before .digits2 .ensures) ∙ c .before .before .before .before .before .before .before .b .given .1) (sym (c .before .before .before .before .before .digits3 .ensures) ∙ c .before .before .before .c .given .1)
-    (c .before .if1 .left) (c .if2 .taken)
-
-returns-6 : tie.Need-returns-6
-returns-6 c =
-    let a = c .before .before .before .before .before .before .before .before .before .before .before .before .before .before .before .before .before .before .args in
-    password-short (now (a .op)) (now (a .password)) (now (a .till)) _ _ _ (sym (c .before .before .before .before .before .before .before .before .before .before .before .before .before .before .digits .ensures) ∙ c .before .before .before .before .before .before .before .before .before .before .before .before .a .given .1) (sym (c .before .before .before .before .before .before .before .before .before .before .digits2 .ensures) ∙ c .before .before .before .before .before .before .before .before .b .given .1) (sym (c .before .before .before .before .before .before .digits3 .ensures) ∙ c .before .before .before .before .c .given .1)
-    (c .before .before .if1 .left) (c .before .if2 .left) (c .if3 .taken)
-
-returns-7 : tie.Need-returns-7
-returns-7 c =
-    let a = c .before .before .before .before .before .before .before .before .before .before .before .before .before .before .before .before .before .before .args in
-    opened (now (a .op)) (now (a .password)) (now (a .till)) _ _ _ (sym (c .before .before .before .before .before .before .before .before .before .before .before .before .before .before .digits .ensures) ∙ c .before .before .before .before .before .before .before .before .before .before .before .before .a .given .1) (sym (c .before .before .before .before .before .before .before .before .before .before .digits2 .ensures) ∙ c .before .before .before .before .before .before .before .before .b .given .1) (sym (c .before .before .before .before .before .before .digits3 .ensures) ∙ c .before .before .before .before .c .given .1)
-    (c .before .before .if1 .left) (c .before .if2 .left) (c .if3 .left)
+    let third = c .before .before in
+    let second = third .before .before .before .before in
+    let first = second .before .before .before .before in
+    let a = first .before .before .before .before .before .before .args in
+    not-opened (now (a .op)) (now (a .password)) (now (a .till)) _ _ _ (sym (first .before .before .digits .ensures) ∙ first .a .given .1) (sym (second .before .before .digits2 .ensures) ∙ second .b .given .1) (sym (third .before .before .digits3 .ensures) ∙ third .c .given .1) (c .if1 .left)
 
 pub open-with-spec : {M : Type 1} → statement M
 open-with-spec =
@@ -88,6 +83,4 @@ open-with-spec =
     enum-told-3
     returns-3
     returns-4
-    returns-5
-    returns-6
-    returns-7)
+    returns-5)

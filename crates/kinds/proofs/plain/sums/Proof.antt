@@ -17,19 +17,15 @@ shared-slice-read-b : tie.Need-shared-slice-read-b
 shared-slice-read-b c = search needs
 
 returns-3 : tie.Need-returns-3
-returns-3 c =
-    let s = now (c .before .before .before .before .args .s) in
-    rw (one s (c .before .before .if2 .left)) (rw (c .if3 .taken))
+returns-3 c = rw (one (now (c .before .before .before .before .args .s)) (c .before .before .if2 .left)) (rw (c .match .keys1))
 
 returns-4 : tie.Need-returns-4
-returns-4 c =
-    let s = now (c .before .before .before .before .before .args .s) in
-    rw (one s (c .before .before .before .if2 .left)) (rw (c .if4 .taken))
+returns-4 c = rw (one (now (c .before .before .before .before .args .s)) (c .before .before .if2 .left)) (rw (c .match .keys2))
 
 returns-5 : tie.Need-returns-5
 returns-5 c =
-    let s = now (c .before .before .before .before .before .args .s) in
-    rw (one s (c .before .before .before .if2 .left)) (rw (ne-eqb (getD s 0 0) 0x30 (c .before .if3 .left), ne-eqb (getD s 0 0) 0x31 (c .if4 .left)))
+    let s = now (c .before .before .before .before .args .s) in
+    rw (one s (c .before .before .if2 .left)) (rw (ne-eqb (getD s 0 0) 0x30 (c .match .rest .0 .1), ne-eqb (getD s 0 0) 0x31 (c .match .rest .1)))
 
 pub sums-spec : {M : Type 1} → statement M
 sums-spec =

@@ -8,13 +8,13 @@ use lib.Dec.{ltb}
 use Rattle.wire.specs.Frame.{commandOf, sendable}
 use Rattle.wire.specs.Replies.{room}
 use Rattle.wire.specs.declared.Kind.the-variants.{Command}
 use Rattle.till.specs.Turns.{State, freshState, Happening, command, byte, timeout, sent, stays, takes}
-use Rattle.till.specs.History.{Lent, says, seqOf, Open, none, one, Seen, nothingSeen, onWord, noted}
-use Rattle.till.specs.Promises.{Tried}
-use Rattle.till.specs.Handed.{Handed, HandsOut, noFrame, firstFrame, frameAgain, handsOut, handedAt, untilNext, handedAgainIn, withCommand, handedFrom, handedIn, AllInPlace, frameIn, framesIn, framesOf}
+use Rattle.attempts.specs.History.{Lent, says, seqOf, Open, none, one, Seen, nothingSeen, onWord, noted}
+use Rattle.attempts.specs.Promises.{Tried}
+use Rattle.attempts.specs.Handed.{Handed, HandsOut, noFrame, firstFrame, frameAgain, handsOut, handedAt, untilNext, handedAgainIn, withCommand, handedFrom, handedIn, AllInPlace, frameIn, framesIn, framesOf}
 use Rattle.till.specs.declared.Word.{Word}
 use Rattle.till.specs.declared.Word.the-variants.{Idle, Waiting, SendAgain, Answered, Unfinished, TooShort, NotSent}
-use Rattle.till.proofs.Seeing.{stateSeen, Sound, turn-good}
+use Rattle.attempts.proofs.Seeing.{stateSeen, Sound, turn-good}
 
 -- neighbours differ by their SEQ alone
 pub seqs-differ : (place : ℕ) → seqOf place ≡ seqOf (place + 1) → ⊥

@@ -3,11 +3,11 @@ use Prim.Native.Nat.{ℕ, _+_}
 use mathlib.Core.Path.{_≡_}
 use mathlib.Core.List.{List, [], _∷_, _++_}
 use Rattle.wire.specs.Frame.{Message, commandOf}
 use Rattle.till.specs.Turns.{State, freshState, Happening, command, byte, timeout}
-use Rattle.till.specs.History.{Lent, says, seqOf}
-use Rattle.till.specs.Promises.{Tried}
+use Rattle.attempts.specs.History.{Lent, says, seqOf}
+use Rattle.attempts.specs.Promises.{Tried}
 use Rattle.till.specs.declared.Word.{Word}
 use Rattle.till.specs.declared.Word.the-variants.{Idle, Waiting, SendAgain, Answered, Unfinished, TooShort, NotSent}
 
 -- a command taken, and the frames handed out for it
 pub record Handed : Type 0 where

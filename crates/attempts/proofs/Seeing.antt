@@ -11,17 +11,22 @@ use borrow.Author.Tests.{ltb-true, eqb-true, eqb-false}
 use Rattle.wire.specs.Frame.{Message, commandOf, frame, sendable}
 use Rattle.wire.specs.Replies.{room}
 use Rattle.wire.specs.declared.Kind.the-variants.{Command, Answer}
-use Rattle.reader.specs.Reading.{Place, outside, Event, nothing, brokenFrame, heard, read, Run, run}
+use Rattle.reader.specs.Reading.{outside, Event, nothing, brokenFrame, heard, read, Run, run}
 use Rattle.reader.proofs.Walking.{run-append}
-use Rattle.till.specs.Turns.{Pending, idle, waits, State, freshState, seqAfter, Happening, command, byte, timeout, Turn, stays, gives, sent, Meaning, failed, goesOn, answers, readAs, nakOutside, byteMeans, failsTry, onMeaning, onCommand, takes}
-use Rattle.till.specs.History.{Lent, says, behind, seqOf, Open, none, one, Seen, nothingSeen, noted, watch, watched}
-use Rattle.till.specs.Promises.{Tried}
-use Rattle.till.specs.declared.Word.the-variants.{SendAgain, Unfinished, TooShort, NotSent}
+use Rattle.till.specs.Turns.{Ear, freshEar, earAfter, Pending, idle, waits, State, freshState, seqAfter, Happening, command, byte, timeout, Turn, stays, sent, Meaning, failed, goesOn, answers, readAs, nakOutside, byteMeans, failsTry, onMeaning, onCommand, takes}
+use Rattle.attempts.specs.History.{Lent, says, behind, seqOf, Open, none, one, Seen, nothingSeen, noted, watch, watched}
+use Rattle.attempts.specs.Promises.{Tried}
+use Rattle.till.specs.declared.Word.the-variants.{TooShort, NotSent}
+use Rattle.till.proofs.Turning.{failsBy}
+
+-- what the last try has heard, by the bytes since its frame was handed out
+abbrev pub earSeen : List ℕ → Ear
+earSeen bytes = record { place = run Answer outside bytes .place }
 
 -- the state that was seen
 abbrev pub pendingSeen : Open → Pending
 pendingSeen none = idle
-pendingSeen (one m frames bytes) = waits (m .seq) (m .code) (frame Command m) (length frames) (run Answer outside bytes .place)
+pendingSeen (one m frames bytes) = waits (m .seq) (m .code) (frame Command m) (length frames) (earSeen bytes)
 
 abbrev pub stateSeen : Seen → State
 stateSeen seen = record { next = seqOf (seen .commands); pending = pendingSeen (seen .last) }
@@ -44,32 +49,26 @@ seq-up k = go (eqb (seqOf k) 0xFF) refl
         by (no h) = absurd (eqb-false (seqOf k) 0xFF e (omega arith))
 
 -- a byte that goes on is read
-pub goes-place : (seq code : ℕ) (p : Place) (b : ℕ) (q : Place) → byteMeans seq code p b ≡ goesOn q → q ≡ read Answer p b .place
-goes-place seq code p b q = go (nakOutside p b) (read Answer p b .event)
+pub goes-on : (seq code : ℕ) (ear : Ear) (b : ℕ) (q : Ear) → byteMeans seq code ear b ≡ goesOn q → q ≡ earAfter ear b
+goes-on seq code ear b q = go (nakOutside (ear .place) b) (read Answer (ear .place) b .event)
   where
-    go : (n : Bool) (e : Event) → cond n failed (readAs seq code b (read Answer p b .place) e) ≡ goesOn q → q ≡ read Answer p b .place
+    go : (n : Bool) (e : Event) → cond n failed (readAs seq code b (earAfter ear b) e) ≡ goesOn q → q ≡ earAfter ear b
     go true e h = let z : _≡_ {A = ℕ} 0 1 = cc in absurd (omega arith)
     go false nothing h = cc
     go false brokenFrame h = by (eqb b 0x01) h
       where
-        by : (s : Bool) → cond s (goesOn (read Answer p b .place)) failed ≡ goesOn q → q ≡ read Answer p b .place
+        by : (s : Bool) → cond s (goesOn (earAfter ear b)) failed ≡ goesOn q → q ≡ earAfter ear b
         by true h = cc
         by false h = let z : _≡_ {A = ℕ} 0 1 = cc in absurd (omega arith)
     go false (heard m) h = by (eqb (m .seq) seq && eqb (m .code) code) h
       where
-        by : (s : Bool) → cond s (answers m) failed ≡ goesOn q → q ≡ read Answer p b .place
+        by : (s : Bool) → cond s (answers m) failed ≡ goesOn q → q ≡ earAfter ear b
         by true h = let z : _≡_ {A = ℕ} 0 1 = cc in absurd (omega arith)
         by false h = let z : _≡_ {A = ℕ} 0 1 = cc in absurd (omega arith)
 
 -- one byte more of a run
-place-more : (bytes : List ℕ) (b : ℕ) → run Answer outside (bytes ++ b ∷ []) .place ≡ read Answer (run Answer outside bytes .place) b .place
-place-more bytes b = ap (λ (r : Run). r .place) (run-append Answer outside bytes (b ∷ []))
-
--- a failed try, by its test
-abbrev pub failsBy : (next seq code : ℕ) → List ℕ → ℕ → Bool → Turn
-failsBy next seq code bytes tries s =
-    cond s (gives SendAgain bytes (record { next = next; pending = waits seq code bytes (tries + 1) outside }))
-    (stays (Unfinished tries) (record { next = next; pending = idle }))
+ear-more : (bytes : List ℕ) (b : ℕ) → earSeen (bytes ++ b ∷ []) ≡ earAfter (earSeen bytes) b
+ear-more bytes b = ap (λ (r : Run). record { place = r .place }) (run-append Answer outside bytes (b ∷ []))
 
 -- what a turn leaves is what is seen of it
 abbrev Good : Seen → Happening → Turn → Type 0
@@ -96,20 +95,20 @@ module _ (k : ℕ) (m : Message) (frames : List (List ℕ)) (bytes : List ℕ) (
       go : (s : Bool) → ltb (length frames) 5 ≡ s
           → Good here h (failsBy (seqOf k) (m .seq) (m .code) bytes-out (length frames) s)
       go true e = (
-        ap (λ j. record { next = seqOf k; pending = waits (m .seq) (m .code) bytes-out j outside }) one-more,
+        ap (λ j. record { next = seqOf k; pending = waits (m .seq) (m .code) bytes-out j freshEar }) one-more,
         record { can = tried .can; same = same-again; some = omega (arith, one-more); few = omega (arith, one-more, ltb-true (length frames) 5 e) },
       )
       go false e = (refl, tt)
 
-  byte-good : (b : ℕ) → Good here (byte b) (onMeaning (seqOf k) (m .seq) (m .code) bytes-out (length frames) (byteMeans (m .seq) (m .code) (run Answer outside bytes .place) b))
-  byte-good b = go (byteMeans (m .seq) (m .code) (run Answer outside bytes .place) b) refl
+  byte-good : (b : ℕ) → Good here (byte b) (onMeaning (seqOf k) (m .seq) (m .code) bytes-out (length frames) (byteMeans (m .seq) (m .code) (earSeen bytes) b))
+  byte-good b = go (byteMeans (m .seq) (m .code) (earSeen bytes) b) refl
     where
-      go : (x : Meaning) → byteMeans (m .seq) (m .code) (run Answer outside bytes .place) b ≡ x
+      go : (x : Meaning) → byteMeans (m .seq) (m .code) (earSeen bytes) b ≡ x
           → Good here (byte b) (onMeaning (seqOf k) (m .seq) (m .code) bytes-out (length frames) x)
       go failed e = fails-good (byte b)
       go (goesOn q) e = (
         ap (λ z. record { next = seqOf k; pending = waits (m .seq) (m .code) bytes-out (length frames) z })
-            (goes-place (m .seq) (m .code) (run Answer outside bytes .place) b q e ∙ sym (place-more bytes b)),
+            (goes-on (m .seq) (m .code) (earSeen bytes) b q e ∙ sym (ear-more bytes b)),
         tried,
       )
       go (answers a) e = (refl, tt)
@@ -123,7 +122,7 @@ sent-good k code content = go (sendable Command (commandOf (seqOf k) code conten
         → Good (record { commands = k; last = none }) (command code content)
         (cond s (sent (seqOf k) (commandOf (seqOf k) code content)) (stays NotSent (record { next = seqOf k; pending = idle })))
     go true e = (
-      ap (λ z. record { next = z; pending = waits (seqOf k) code (frame Command (commandOf (seqOf k) code content)) 1 outside }) (seq-up k),
+      ap (λ z. record { next = z; pending = waits (seqOf k) code (frame Command (commandOf (seqOf k) code content)) 1 freshEar }) (seq-up k),
       record { can = e; same = refl; some = omega arith; few = omega arith },
     )
     go false e = (refl, tt)

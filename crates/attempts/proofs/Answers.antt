@@ -15,33 +15,34 @@ use Rattle.reader.specs.Reading.{Place, outside, Event, nothing, brokenFrame, h
 use Rattle.reader.proofs.Walking.{run-append}
 use Rattle.reader.proofs.RoundTrip.{read-what-was-built}
 use Rattle.reader.proofs.History.{built-is-all-that-is-read}
-use Rattle.till.specs.Turns.{idle, State, freshState, Happening, command, byte, timeout, Turn, stays, gives, Meaning, failed, goesOn, answers, readAs, nakOutside, byteMeans, failsTry, onMeaning, onCommand, takes, sent}
-use Rattle.till.specs.History.{Lent, says, behind, seqOf, Open, none, one, Seen, watched}
-use Rattle.till.specs.Promises.{Came}
+use Rattle.till.specs.Turns.{Ear, earAfter, idle, State, freshState, Happening, command, byte, timeout, Turn, stays, gives, Meaning, failed, goesOn, answers, readAs, nakOutside, byteMeans, failsTry, onMeaning, onCommand, takes, sent}
+use Rattle.attempts.specs.History.{Lent, says, behind, seqOf, Open, none, one, Seen, watched}
+use Rattle.attempts.specs.Promises.{Came}
 use Rattle.till.specs.declared.Word.the-variants.{Idle, Answered, TooShort, NotSent}
 use Rattle.till.proofs.Hearing.{heard-from}
-use Rattle.till.proofs.Seeing.{stateSeen, state-seen, failsBy}
+use Rattle.till.proofs.Turning.{failsBy}
+use Rattle.attempts.proofs.Seeing.{earSeen, stateSeen, state-seen}
 
 -- a byte that answers was heard as a whole answer that matches
-pub record Matches (seq code : ℕ) (p : Place) (b : ℕ) (a : Message) : Type 0 where
-  pub hears : read Answer p b .event ≡ heard a
+pub record Matches (seq code : ℕ) (ear : Ear) (b : ℕ) (a : Message) : Type 0 where
+  pub hears : read Answer (ear .place) b .event ≡ heard a
   pub seq-is : a .seq ≡ seq
   pub code-is : a .code ≡ code
 
-pub answers-heard : (seq code : ℕ) (p : Place) (b : ℕ) (a : Message) → byteMeans seq code p b ≡ answers a → Matches seq code p b a
-answers-heard seq code p b a = go (nakOutside p b) (read Answer p b .event) refl
+pub answers-heard : (seq code : ℕ) (ear : Ear) (b : ℕ) (a : Message) → byteMeans seq code ear b ≡ answers a → Matches seq code ear b a
+answers-heard seq code ear b a = go (nakOutside (ear .place) b) (read Answer (ear .place) b .event) refl
   where
-    go : (n : Bool) (e : Event) → read Answer p b .event ≡ e → cond n failed (readAs seq code b (read Answer p b .place) e) ≡ answers a → Matches seq code p b a
+    go : (n : Bool) (e : Event) → read Answer (ear .place) b .event ≡ e → cond n failed (readAs seq code b (earAfter ear b) e) ≡ answers a → Matches seq code ear b a
     go true e r h = let z : _≡_ {A = ℕ} 0 1 = cc in absurd (omega arith)
     go false nothing r h = let z : _≡_ {A = ℕ} 0 1 = cc in absurd (omega arith)
     go false brokenFrame r h = by (eqb b 0x01) h
       where
-        by : (s : Bool) → cond s (goesOn (read Answer p b .place)) failed ≡ answers a → Matches seq code p b a
+        by : (s : Bool) → cond s (goesOn (earAfter ear b)) failed ≡ answers a → Matches seq code ear b a
         by true h = let z : _≡_ {A = ℕ} 0 1 = cc in absurd (omega arith)
         by false h = let z : _≡_ {A = ℕ} 0 1 = cc in absurd (omega arith)
     go false (heard m) r h = by (eqb (m .seq) seq && eqb (m .code) code) refl h
       where
-        by : (s : Bool) → eqb (m .seq) seq && eqb (m .code) code ≡ s → cond s (answers m) failed ≡ answers a → Matches seq code p b a
+        by : (s : Bool) → eqb (m .seq) seq && eqb (m .code) code ≡ s → cond s (answers m) failed ≡ answers a → Matches seq code ear b a
         by true t h =
             let same : m ≡ a = cc in
             let tests = both (eqb (m .seq) seq) (eqb (m .code) code) t in
@@ -53,12 +54,12 @@ answers-heard seq code p b a = go (nakOutside p b) (read Answer p b .event) refl
         by false t h = let z : _≡_ {A = ℕ} 0 1 = cc in absurd (omega arith)
 
 -- and the other way round
-pub heard-answers : (seq code : ℕ) (p : Place) (b : ℕ) (a : Message) → Matches seq code p b a → byteMeans seq code p b ≡ answers a
-heard-answers seq code p b a h =
-    let f = heard-from Answer p b a (h .hears) in
-    let no-nak : nakOutside p b ≡ false = ap (λ z. nakOutside z b) (f .was) in
-    ap (λ n. cond n failed (readAs seq code b (read Answer p b .place) (read Answer p b .event))) no-nak
-    ∙ ap (readAs seq code b (read Answer p b .place)) (h .hears)
+pub heard-answers : (seq code : ℕ) (ear : Ear) (b : ℕ) (a : Message) → Matches seq code ear b a → byteMeans seq code ear b ≡ answers a
+heard-answers seq code ear b a h =
+    let f = heard-from Answer (ear .place) b a (h .hears) in
+    let no-nak : nakOutside (ear .place) b ≡ false = ap (λ z. nakOutside z b) (f .was) in
+    ap (λ n. cond n failed (readAs seq code b (earAfter ear b) (read Answer (ear .place) b .event))) no-nak
+    ∙ ap (readAs seq code b (earAfter ear b)) (h .hears)
     ∙ ap (λ s. cond (s && eqb (a .code) code) (answers a) failed) (eq-eqb (a .seq) seq (h .seq-is))
     ∙ ap (λ s. cond s (answers a) failed) (eq-eqb (a .code) code (h .code-is))
 
@@ -104,14 +105,14 @@ no-sent k code content n = go (sendable Command (commandOf (seqOf k) code conten
 
 -- a byte to a command that waits
 byte-came : (k : ℕ) (m : Message) (frames : List (List ℕ)) (since : List ℕ) (size b n : ℕ) → 210 ≤ size → (x : Meaning)
-    → byteMeans (m .seq) (m .code) (run Answer outside since .place) b ≡ x
+    → byteMeans (m .seq) (m .code) (earSeen since) b ≡ x
     → onMeaning (seqOf k) (m .seq) (m .code) (frame Command m) (length frames) x .word ≡ Answered n
     → Answer-came (record { commands = k; last = one m frames since }) (record { size = size; happens = byte b })
     (onMeaning (seqOf k) (m .seq) (m .code) (frame Command m) (length frames) x) n
 byte-came k m frames since size b n big failed e w = absurd (no-failed (seqOf k) (m .seq) (m .code) (frame Command m) (length frames) n w)
-byte-came k m frames since size b n big (goesOn place) e w = let z : _≡_ {A = ℕ} 0 1 = cc in absurd (omega arith)
+byte-came k m frames since size b n big (goesOn ear) e w = let z : _≡_ {A = ℕ} 0 1 = cc in absurd (omega arith)
 byte-came k m frames since size b n big (answers a) e w =
-    let h = answers-heard (m .seq) (m .code) (run Answer outside since .place) b a e in
+    let h = answers-heard (m .seq) (m .code) (earSeen since) b a e in
     let built = built-is-all-that-is-read Answer since b a (h .hears) in
     let same : n ≡ length (a .content ++ a .status) = cc in (
       record {
@@ -141,7 +142,7 @@ came-seen seen l n = go (ltb (l .size) (room Command)) refl
     taken none (byte b) big w = let z : _≡_ {A = ℕ} 0 1 = cc in absurd (omega arith)
     taken none timeout big w = let z : _≡_ {A = ℕ} 0 1 = cc in absurd (omega arith)
     taken (one m frames since) (command code content) big w = let z : _≡_ {A = ℕ} 0 1 = cc in absurd (omega arith)
-    taken (one m frames since) (byte b) big w = byte-came (seen .commands) m frames since (l .size) b n big (byteMeans (m .seq) (m .code) (run Answer outside since .place) b) refl w
+    taken (one m frames since) (byte b) big w = byte-came (seen .commands) m frames since (l .size) b n big (byteMeans (m .seq) (m .code) (earSeen since) b) refl w
     taken (one m frames since) timeout big w = absurd (no-failed (seqOf (seen .commands)) (m .seq) (m .code) (frame Command m) (length frames) n w)
 
     go : (s : Bool) → ltb (l .size) (room Command) ≡ s → cond s (stays TooShort (stateSeen seen)) (takes (stateSeen seen) (l .happens)) .word ≡ Answered n
@@ -158,9 +159,9 @@ answered-came ls l n =
 answered-seen : (seen : Seen) (l : Lent) (c : Came seen l)
     → says (stateSeen seen) l ≡ gives Answered (c .answer .content ++ c .answer .status) (record { next = seqOf (seen .commands); pending = idle })
 answered-seen seen l c =
-    let place : Place = run Answer outside (c .since) .place in
-    let means : byteMeans (c .waiting .seq) (c .waiting .code) place (c .last) ≡ answers (c .answer) =
-    heard-answers (c .waiting .seq) (c .waiting .code) place (c .last) (c .answer)
+    let ear : Ear = earSeen (c .since) in
+    let means : byteMeans (c .waiting .seq) (c .waiting .code) ear (c .last) ≡ answers (c .answer) =
+    heard-answers (c .waiting .seq) (c .waiting .code) ear (c .last) (c .answer)
     (record { hears = brings (c .since) (c .last) (c .before) (c .answer) (c .can) (c .whole); seq-is = c .seq; code-is = c .code }) in
     ap (λ s. cond s (stays TooShort (stateSeen seen)) (takes (stateSeen seen) (l .happens))) (le-ltb (l .size) 210 (c .room))
     ∙ ap (takes (stateSeen seen)) (c .heard)

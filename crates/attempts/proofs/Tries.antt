@@ -12,16 +12,16 @@ use borrow.Author.Tests.{ltb-true, ltb-false, lt-ltb, le-ltb, le-leb}
 use Rattle.wire.specs.Bytes.{mayStand, every}
 use Rattle.wire.specs.Frame.{Message, commandOf, frame, sendable}
 use Rattle.wire.specs.Replies.{room}
-use Rattle.wire.specs.declared.Kind.the-variants.{Command, Answer}
+use Rattle.wire.specs.declared.Kind.the-variants.{Command}
 use Rattle.wire.specs.declared.Sort.the-variants.{Mark as SeqOrCmd, Data}
 use Rattle.wire.proofs.Building.{sendable-command}
-use Rattle.reader.specs.Reading.{Place, outside, run}
-use Rattle.till.specs.Turns.{Pending, idle, waits, State, freshState, Happening, command, byte, timeout, Turn, stays, sent, Meaning, failed, goesOn, answers, byteMeans, failsTry, onMeaning, onCommand, takes, hears}
-use Rattle.till.specs.History.{Lent, says, behind, seqOf, Open, none, one, Seen, nothingSeen, onWord, noted, watch, watched, Mark, ended, marksOf, marks, alternate, ends, failure, failureOf, failures}
-use Rattle.till.specs.Promises.{Tried, GivenUp}
-use Rattle.till.specs.declared.Word.the-variants.{Idle, Answered, Unfinished, TooShort, NotSent}
-use Rattle.till.proofs.Answers.{none-idle}
-use Rattle.till.proofs.Seeing.{stateSeen, Sound, state-seen, sound-seen, failsBy}
+use Rattle.till.specs.Turns.{Ear, freshEar, Pending, idle, waits, State, freshState, Happening, command, byte, timeout, Turn, stays, sent, Meaning, failed, goesOn, answers, byteMeans, failsTry, onMeaning, onCommand, takes, hears}
+use Rattle.attempts.specs.History.{Lent, says, behind, seqOf, Open, none, one, Seen, nothingSeen, onWord, noted, watch, watched, Mark, ended, marksOf, marks, alternate, ends, failure, failureOf, failures}
+use Rattle.attempts.specs.Promises.{Tried, GivenUp}
+use Rattle.till.specs.declared.Word.the-variants.{Idle, Unfinished, TooShort, NotSent}
+use Rattle.attempts.proofs.Answers.{none-idle}
+use Rattle.till.proofs.Turning.{failsBy}
+use Rattle.attempts.proofs.Seeing.{earSeen, stateSeen, Sound, state-seen, sound-seen}
 
 -- at every moment the frames handed out for the command that waits are its own, one to five
 pub frames-same : (ls : List Lent) (m : Message) (frames : List (List ℕ)) (since : List ℕ) → watched ls .last ≡ one m frames since → Tried m frames
@@ -50,7 +50,7 @@ given-failed k m frames since n tried = go (ltb (length frames) 5) refl
 given-byte : (k : ℕ) (m : Message) (frames : List (List ℕ)) (since : List ℕ) (n : ℕ) → Tried m frames → (x : Meaning)
     → onMeaning (seqOf k) (m .seq) (m .code) (frame Command m) (length frames) x .word ≡ Unfinished n → GivenUp (record { commands = k; last = one m frames since }) n
 given-byte k m frames since n tried failed w = given-failed k m frames since n tried w
-given-byte k m frames since n tried (goesOn place) w = let z : _≡_ {A = ℕ} 0 1 = cc in absurd (omega arith)
+given-byte k m frames since n tried (goesOn ear) w = let z : _≡_ {A = ℕ} 0 1 = cc in absurd (omega arith)
 given-byte k m frames since n tried (answers a) w = let z : _≡_ {A = ℕ} 0 1 = cc in absurd (omega arith)
 
 no-sent : (k code : ℕ) (content : List ℕ) (n : ℕ) → onCommand (record { next = seqOf k; pending = idle }) idle code content .word ≡ Unfinished n → ⊥
@@ -69,7 +69,7 @@ given-seen seen l n sound = go (ltb (l .size) (room Command))
     taken none s (byte b) w = let z : _≡_ {A = ℕ} 0 1 = cc in absurd (omega arith)
     taken none s timeout w = let z : _≡_ {A = ℕ} 0 1 = cc in absurd (omega arith)
     taken (one m frames since) s (command code content) w = let z : _≡_ {A = ℕ} 0 1 = cc in absurd (omega arith)
-    taken (one m frames since) s (byte b) w = given-byte (seen .commands) m frames since n s (byteMeans (m .seq) (m .code) (run Answer outside since .place) b) w
+    taken (one m frames since) s (byte b) w = given-byte (seen .commands) m frames since n s (byteMeans (m .seq) (m .code) (earSeen since) b) w
     taken (one m frames since) s timeout w = given-failed (seen .commands) m frames since n s w
 
     go : (s : Bool) → cond s (stays TooShort (stateSeen seen)) (takes (stateSeen seen) (l .happens)) .word ≡ Unfinished n → GivenUp seen n
@@ -84,24 +84,24 @@ unfinished-is-five ls l n =
 -- one event and the marks: a command is taken only where none waits, and ended only where one does
 abbrev waitingIn : Pending → Bool
 waitingIn idle = false
-waitingIn (waits seq code bytes tries place) = true
+waitingIn (waits seq code bytes tries ear) = true
 
 abbrev Fits : Pending → Happening → Turn → Type 0
 Fits p h t = (ms : List Mark) → alternate (waitingIn p) (marksOf h (t .word) ++ ms) ≡ alternate (waitingIn (t .state .pending)) ms
 
-fits-failed : (next seq code : ℕ) (bytes : List ℕ) (tries : ℕ) (place : Place) (h : Happening)
-    → Fits (waits seq code bytes tries place) h (failsTry next seq code bytes tries)
-fits-failed next seq code bytes tries place h = go (ltb tries 5)
+fits-failed : (next seq code : ℕ) (bytes : List ℕ) (tries : ℕ) (ear : Ear) (h : Happening)
+    → Fits (waits seq code bytes tries ear) h (failsTry next seq code bytes tries)
+fits-failed next seq code bytes tries ear h = go (ltb tries 5)
   where
-    go : (s : Bool) → Fits (waits seq code bytes tries place) h (failsBy next seq code bytes tries s)
+    go : (s : Bool) → Fits (waits seq code bytes tries ear) h (failsBy next seq code bytes tries s)
     go true ms = refl
     go false ms = refl
 
-fits-byte : (next seq code : ℕ) (bytes : List ℕ) (tries : ℕ) (place : Place) (b : ℕ) (x : Meaning)
-    → Fits (waits seq code bytes tries place) (byte b) (onMeaning next seq code bytes tries x)
-fits-byte next seq code bytes tries place b failed ms = fits-failed next seq code bytes tries place (byte b) ms
-fits-byte next seq code bytes tries place b (goesOn q) ms = refl
-fits-byte next seq code bytes tries place b (answers a) ms = refl
+fits-byte : (next seq code : ℕ) (bytes : List ℕ) (tries : ℕ) (ear : Ear) (b : ℕ) (x : Meaning)
+    → Fits (waits seq code bytes tries ear) (byte b) (onMeaning next seq code bytes tries x)
+fits-byte next seq code bytes tries ear b failed ms = fits-failed next seq code bytes tries ear (byte b) ms
+fits-byte next seq code bytes tries ear b (goesOn q) ms = refl
+fits-byte next seq code bytes tries ear b (answers a) ms = refl
 
 fits-sent : (next code : ℕ) (content : List ℕ) → Fits idle (command code content) (onCommand (record { next = next; pending = idle }) idle code content)
 fits-sent next code content = go (sendable Command (commandOf next code content))
@@ -114,9 +114,9 @@ fits-takes : (next : ℕ) (p : Pending) (h : Happening) → Fits p h (takes (rec
 fits-takes next idle (command code content) ms = fits-sent next code content ms
 fits-takes next idle (byte b) ms = refl
 fits-takes next idle timeout ms = refl
-fits-takes next (waits seq code bytes tries place) (command other content) ms = refl
-fits-takes next (waits seq code bytes tries place) (byte b) ms = fits-byte next seq code bytes tries place b (byteMeans seq code place b) ms
-fits-takes next (waits seq code bytes tries place) timeout ms = fits-failed next seq code bytes tries place timeout ms
+fits-takes next (waits seq code bytes tries ear) (command other content) ms = refl
+fits-takes next (waits seq code bytes tries ear) (byte b) ms = fits-byte next seq code bytes tries ear b (byteMeans seq code ear b) ms
+fits-takes next (waits seq code bytes tries ear) timeout ms = fits-failed next seq code bytes tries ear timeout ms
 
 fits-turn : (s : State) (l : Lent) → Fits (s .pending) (l .happens) (says s l)
 fits-turn s l = go (ltb (l .size) (room Command))
@@ -134,15 +134,15 @@ pub each-ends-once : (ls : List Lent) → alternate false (marks freshState ls) 
 each-ends-once ls = alternate-from ls freshState
 
 -- between, no other command is taken: 8, and everything stays
-pub none-between : (s : State) (seq sentCode : ℕ) (bytes : List ℕ) (tries : ℕ) (place : Place) → s .pending ≡ waits seq sentCode bytes tries place
+pub none-between : (s : State) (seq sentCode : ℕ) (bytes : List ℕ) (tries : ℕ) (ear : Ear) → s .pending ≡ waits seq sentCode bytes tries ear
     → (size code : ℕ) (content : List ℕ) → 210 ≤ size → hears size s (command code content) ≡ stays NotSent s
-none-between s seq sentCode bytes tries place e size code content big =
+none-between s seq sentCode bytes tries ear e size code content big =
     ap (λ short. cond short (stays TooShort s) (takes s (command code content))) (le-ltb size 210 big) ∙ ap (λ p. onCommand s p code content) e
 
 -- one event to a command that waits: it ends, or it waits on with one try more for each failed one
 record Waits-on (next seq code : ℕ) (bytes : List ℕ) (tries failed-now : ℕ) (h : Happening) (t : Turn) : Type 0 where
-  place : Place
-  state : t .state ≡ record { next = next; pending = waits seq code bytes (tries + failed-now) place }
+  ear : Ear
+  state : t .state ≡ record { next = next; pending = waits seq code bytes (tries + failed-now) ear }
   few : tries + failed-now ≤ 5
   quiet : marksOf h (t .word) ≡ []
 
@@ -150,80 +150,80 @@ abbrev Ends-or : (next seq code : ℕ) → List ℕ → ℕ → ℕ → Happenin
 Ends-or next seq code bytes tries f h t = (marksOf h (t .word) ≡ ended ∷ []) ⊎ Waits-on next seq code bytes tries f h t
 
 module _ (next seq code : ℕ) (bytes : List ℕ) (tries : ℕ) (few : tries ≤ 5) where
-  abbrev same-tries : Place → State
-  same-tries place = record { next = next; pending = waits seq code bytes tries place }
+  abbrev same-tries : Ear → State
+  same-tries ear = record { next = next; pending = waits seq code bytes tries ear }
 
-  none-failed : (place : Place) → same-tries place ≡ record { next = next; pending = waits seq code bytes (tries + 0) place }
-  none-failed place = ap (λ j. record { next = next; pending = waits seq code bytes j place }) (sym (add-zero tries))
+  none-failed : (ear : Ear) → same-tries ear ≡ record { next = next; pending = waits seq code bytes (tries + 0) ear }
+  none-failed ear = ap (λ j. record { next = next; pending = waits seq code bytes j ear }) (sym (add-zero tries))
 
   ends-failed : (h : Happening) → Ends-or next seq code bytes tries 1 h (failsTry next seq code bytes tries)
   ends-failed h = go (ltb tries 5) refl
     where
       go : (s : Bool) → ltb tries 5 ≡ s → Ends-or next seq code bytes tries 1 h (failsBy next seq code bytes tries s)
-      go true e = inr (record { place = outside; state = refl; few = omega (arith, ltb-true tries 5 e); quiet = refl })
+      go true e = inr (record { ear = freshEar; state = refl; few = omega (arith, ltb-true tries 5 e); quiet = refl })
       go false e = inl refl
 
   ends-byte : (b : ℕ) (x : Meaning) → Ends-or next seq code bytes tries (failure x) (byte b) (onMeaning next seq code bytes tries x)
   ends-byte b failed = ends-failed (byte b)
-  ends-byte b (goesOn place) = inr (record { place = place; state = none-failed place; few = omega arith; quiet = refl })
+  ends-byte b (goesOn ear) = inr (record { ear = ear; state = none-failed ear; few = omega arith; quiet = refl })
   ends-byte b (answers a) = inl refl
 
-  ends-takes : (place : Place) (h : Happening) → Ends-or next seq code bytes tries (failureOf (waits seq code bytes tries place) h) h (takes (same-tries place) h)
-  ends-takes place (command other content) = inr (record { place = place; state = none-failed place; few = omega arith; quiet = refl })
-  ends-takes place (byte b) = ends-byte b (byteMeans seq code place b)
-  ends-takes place timeout = ends-failed timeout
+  ends-takes : (ear : Ear) (h : Happening) → Ends-or next seq code bytes tries (failureOf (waits seq code bytes tries ear) h) h (takes (same-tries ear) h)
+  ends-takes ear (command other content) = inr (record { ear = ear; state = none-failed ear; few = omega arith; quiet = refl })
+  ends-takes ear (byte b) = ends-byte b (byteMeans seq code ear b)
+  ends-takes ear timeout = ends-failed timeout
 
-  ends-turn : (place : Place) (l : Lent)
-      → Ends-or next seq code bytes tries (cond (ltb (l .size) (room Command)) 0 (failureOf (waits seq code bytes tries place) (l .happens))) (l .happens) (says (same-tries place) l)
-  ends-turn place l = go (ltb (l .size) (room Command))
+  ends-turn : (ear : Ear) (l : Lent)
+      → Ends-or next seq code bytes tries (cond (ltb (l .size) (room Command)) 0 (failureOf (waits seq code bytes tries ear) (l .happens))) (l .happens) (says (same-tries ear) l)
+  ends-turn ear l = go (ltb (l .size) (room Command))
     where
-      go : (short : Bool) → Ends-or next seq code bytes tries (cond short 0 (failureOf (waits seq code bytes tries place) (l .happens))) (l .happens)
-          (cond short (stays TooShort (same-tries place)) (takes (same-tries place) (l .happens)))
-      go true = inr (record { place = place; state = none-failed place; few = omega arith; quiet = refl })
-      go false = ends-takes place (l .happens)
+      go : (short : Bool) → Ends-or next seq code bytes tries (cond short 0 (failureOf (waits seq code bytes tries ear) (l .happens))) (l .happens)
+          (cond short (stays TooShort (same-tries ear)) (takes (same-tries ear) (l .happens)))
+      go true = inr (record { ear = ear; state = none-failed ear; few = omega arith; quiet = refl })
+      go false = ends-takes ear (l .happens)
 
 -- and any list of events: it ends, or it waits on
 pub record Waits-through (s : State) (ls : List Lent) (next seq code : ℕ) (bytes : List ℕ) (tries : ℕ) : Type 0 where
-  pub place : Place
-  pub state : behind s ls ≡ record { next = next; pending = waits seq code bytes (tries + failures s ls) place }
+  pub ear : Ear
+  pub state : behind s ls ≡ record { next = next; pending = waits seq code bytes (tries + failures s ls) ear }
   pub few : tries + failures s ls ≤ 5
 
-pub waits-through : (ls : List Lent) (next seq code : ℕ) (bytes : List ℕ) (tries : ℕ) (place : Place) → tries ≤ 5
-    → ends (marks (record { next = next; pending = waits seq code bytes tries place }) ls) ≡ false
-    → Waits-through (record { next = next; pending = waits seq code bytes tries place }) ls next seq code bytes tries
-waits-through [] next seq code bytes tries place few e =
-    record { place = place; state = none-failed next seq code bytes tries few place; few = omega arith }
-waits-through (l ∷ ls) next seq code bytes tries place few e =
+pub waits-through : (ls : List Lent) (next seq code : ℕ) (bytes : List ℕ) (tries : ℕ) (ear : Ear) → tries ≤ 5
+    → ends (marks (record { next = next; pending = waits seq code bytes tries ear }) ls) ≡ false
+    → Waits-through (record { next = next; pending = waits seq code bytes tries ear }) ls next seq code bytes tries
+waits-through [] next seq code bytes tries ear few e =
+    record { ear = ear; state = none-failed next seq code bytes tries few ear; few = omega arith }
+waits-through (l ∷ ls) next seq code bytes tries ear few e =
     ⊎-elim
     (λ over. absurd (false≢true (sym e ∙ ap (λ z. ends (z ++ marks (says s l .state) ls)) over)))
     (λ on.
-    let f : ℕ = cond (ltb (l .size) (room Command)) 0 (failureOf (waits seq code bytes tries place) (l .happens)) in
+    let f : ℕ = cond (ltb (l .size) (room Command)) 0 (failureOf (waits seq code bytes tries ear) (l .happens)) in
     let rest : Waits-through (says s l .state) ls next seq code bytes (tries + f) =
     subst (λ (z : State). ends (marks z ls) ≡ false → Waits-through z ls next seq code bytes (tries + f)) (sym (on .state))
-    (waits-through ls next seq code bytes (tries + f) (on .place) (on .few))
+    (waits-through ls next seq code bytes (tries + f) (on .ear) (on .few))
     (sym (ap (λ z. ends (z ++ marks (says s l .state) ls)) (on .quiet)) ∙ e) in
     let sum : tries + f + failures (says s l .state) ls ≡ tries + (f + failures (says s l .state) ls) = omega arith in
     record {
-      place = rest .place;
-      state = rest .state ∙ ap (λ j. record { next = next; pending = waits seq code bytes j (rest .place) }) sum;
+      ear = rest .ear;
+      state = rest .state ∙ ap (λ j. record { next = next; pending = waits seq code bytes j (rest .ear) }) sum;
       few = omega (arith, rest .few);
     })
-    (ends-turn next seq code bytes tries few place l)
+    (ends-turn next seq code bytes tries few ear l)
   where
     s : State
-    s = record { next = next; pending = waits seq code bytes tries place }
+    s = record { next = next; pending = waits seq code bytes tries ear }
 
 -- the theorem: a command whose frame was handed out once has ended once five tries have failed
-pub five-failed-tries-end : (ls : List Lent) (s : State) (seq code : ℕ) (bytes : List ℕ) (place : Place) → s .pending ≡ waits seq code bytes 1 place
+pub five-failed-tries-end : (ls : List Lent) (s : State) (seq code : ℕ) (bytes : List ℕ) (ear : Ear) → s .pending ≡ waits seq code bytes 1 ear
     → 5 ≤ failures s ls → ends (marks s ls) ≡ true
-five-failed-tries-end ls s seq code bytes place e =
+five-failed-tries-end ls s seq code bytes ear e =
     subst (λ (p : Pending). 5 ≤ failures (record { next = s .next; pending = p }) ls → ends (marks (record { next = s .next; pending = p }) ls) ≡ true) (sym e)
-    (go (ends (marks (record { next = s .next; pending = waits seq code bytes 1 place }) ls)) refl)
+    (go (ends (marks (record { next = s .next; pending = waits seq code bytes 1 ear }) ls)) refl)
   where
-    go : (over : Bool) → ends (marks (record { next = s .next; pending = waits seq code bytes 1 place }) ls) ≡ over
-        → 5 ≤ failures (record { next = s .next; pending = waits seq code bytes 1 place }) ls → over ≡ true
+    go : (over : Bool) → ends (marks (record { next = s .next; pending = waits seq code bytes 1 ear }) ls) ≡ over
+        → 5 ≤ failures (record { next = s .next; pending = waits seq code bytes 1 ear }) ls → over ≡ true
     go true h five = refl
-    go false h five = absurd (omega (arith, waits-through ls (s .next) seq code bytes 1 place (omega arith) h .few))
+    go false h five = absurd (omega (arith, waits-through ls (s .next) seq code bytes 1 ear (omega arith) h .few))
 
 -- where none waits, a command is taken exactly when its CMD and data may be sent: the SEQ always may
 seq-may : (k : ℕ) → mayStand SeqOrCmd (seqOf k) ≡ true
@@ -257,7 +257,7 @@ watch-snoc : (ls : List Lent) (seen : Seen) (s : State) (l : Lent) → watch see
 watch-snoc [] seen s l = refl
 watch-snoc (x ∷ ls) seen s l = watch-snoc ls (noted seen (x .happens) (says s x)) (says s x .state) l
 
--- behind Unfinished, and behind Answered, no command waits
+-- behind Unfinished no command waits
 pub unfinished-over : (ls : List Lent) (l : Lent) (n : ℕ) → says (behind freshState ls) l .word ≡ Unfinished n → watched (ls ++ l ∷ []) .last ≡ none
 unfinished-over ls l n e =
     ap (λ (z : Seen). z .last) (watch-snoc ls nothingSeen freshState l)
@@ -268,11 +268,6 @@ pub too-late : (ls : List Lent) (l : Lent) (n : ℕ) → says (behind freshState
     → says (behind freshState (ls ++ l ∷ [])) (record { size = size; happens = byte b }) ≡ stays Idle (behind freshState (ls ++ l ∷ []))
 too-late ls l n e size b big =
     none-idle (ls ++ l ∷ []) size (byte b) (unfinished-over ls l n e) big (λ code content q. let z : _≡_ {A = ℕ} 0 1 = cc in omega arith)
-
-pub answered-over : (ls : List Lent) (l : Lent) (n : ℕ) → says (behind freshState ls) l .word ≡ Answered n → watched (ls ++ l ∷ []) .last ≡ none
-answered-over ls l n e =
-    ap (λ (z : Seen). z .last) (watch-snoc ls nothingSeen freshState l)
-    ∙ ap (λ w. onWord (watched ls) (l .happens) w (says (behind freshState ls) l .puts) .last) e
 
 -- 7 comes before all else, and changes nothing
 pub short-first : (s : State) (size : ℕ) (h : Happening) → size < 210 → hears size s h ≡ stays TooShort s

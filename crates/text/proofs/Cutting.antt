@@ -1,4 +1,4 @@
--- Laws of cutting a list at the first byte of a kind.
+-- Laws of cutting a list at the first byte of a kind, and of its first byte.
 use mathlib.Core.Path.{_≡_, refl, sym, ap, _∙_}
 use mathlib.Core.Bool.{Bool, true, false, cond, false≢true}
 use mathlib.Core.List.{List, [], _∷_}
@@ -9,8 +9,7 @@ use lib.Dec.{eqb}
 use lib.ListN.{length, getD, take, drop, length-drop, drop-of-length-le}
 use lib.Seq.{drop-cons, length-take-le, take-all, take-nil}
 use borrow.Author.Tests.{eq-eqb, ne-eqb}
-use Rattle.figures.specs.Parts.{firstAt}
-use Rattle.figures.specs.Numbers.{begins, unsigned}
+use Rattle.text.specs.Parts.{firstAt, begins}
 
 -- what is still to be passed from i on
 module _ (b : ℕ) (xs : List ℕ) (i : ℕ) where
@@ -59,14 +58,3 @@ begins-first b (x ∷ xs) h = refl
 pub begins-some : (b : ℕ) (xs : List ℕ) → true ≡ begins b xs → 1 ≤ length xs
 begins-some b [] h = absurd (false≢true (sym h))
 begins-some b (x ∷ xs) h = omega arith
-
--- the sign is cut off
-module _ (s : List ℕ) where
-  pub unsigned-plus : begins 0x2B s ≡ true → take (length s - 1) (drop 1 s) ≡ unsigned s
-  unsigned-plus e = rw e (to-end 1 s)
-
-  pub unsigned-minus : begins 0x2B s ≡ false → begins 0x2D s ≡ true → take (length s - 1) (drop 1 s) ≡ unsigned s
-  unsigned-minus p e = rw (p, e) (to-end 1 s)
-
-  pub unsigned-none : begins 0x2B s ≡ false → begins 0x2D s ≡ false → s ≡ unsigned s
-  unsigned-none p e = rw (p, e)

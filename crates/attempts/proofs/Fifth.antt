@@ -9,12 +9,11 @@ use lib.Dec.{ltb}
 use Rattle.wire.specs.Frame.{commandOf, frame, sendable}
 use Rattle.wire.specs.Replies.{room}
 use Rattle.wire.specs.declared.Kind.the-variants.{Command}
-use Rattle.reader.specs.Reading.{Place, outside}
-use Rattle.till.specs.Turns.{Pending, idle, waits, State, freshState, seqAfter, Happening, command, byte, timeout, Turn, stays, sent, Meaning, failed, goesOn, answers, byteMeans, onMeaning, onCommand, takes}
-use Rattle.till.specs.History.{Lent, says, behind, took, marksOf, marks, ends, failure, failureOf, failures}
-use Rattle.till.specs.Fifth.{FifthFails, restWord, restsUntilTaken}
+use Rattle.till.specs.Turns.{Ear, freshEar, Pending, idle, waits, State, freshState, seqAfter, Happening, command, byte, timeout, Turn, stays, sent, Meaning, failed, goesOn, answers, byteMeans, onMeaning, onCommand, takes}
+use Rattle.attempts.specs.History.{Lent, says, behind, took, marksOf, marks, ends, failure, failureOf, failures}
+use Rattle.attempts.specs.Fifth.{FifthFails, restWord, restsUntilTaken}
 use Rattle.till.specs.declared.Word.the-variants.{Waiting, Unfinished, TooShort, NotSent}
-use Rattle.till.proofs.Tries.{waits-through}
+use Rattle.attempts.proofs.Tries.{waits-through}
 
 behind-append : (xs ys : List Lent) (s : State) → behind s (xs ++ ys) ≡ behind (behind s xs) ys
 behind-append [] ys s = refl
@@ -23,7 +22,7 @@ behind-append (x ∷ xs) ys s = behind-append xs ys (says s x .state)
 -- a command that says Waiting waits with its first try
 abbrev firstTry : ℕ → ℕ → List ℕ → State
 firstTry next code content =
-    record { next = seqAfter next; pending = waits next code (frame Command (commandOf next code content)) 1 outside }
+    record { next = seqAfter next; pending = waits next code (frame Command (commandOf next code content)) 1 freshEar }
 
 taken-waits : (next : ℕ) (p : Pending) (size code : ℕ) (content : List ℕ) (count : ℕ)
     → says (record { next = next; pending = p }) (record { size = size; happens = command code content }) .word ≡ Waiting count
@@ -40,18 +39,18 @@ taken-waits next p size code content count = go (ltb size (room Command)) p
             → cond can (sent next (commandOf next code content)) (stays NotSent (record { next = next; pending = idle })) .state ≡ firstTry next code content
         by true e = refl
         by false e = let z : _≡_ {A = ℕ} 0 1 = cc in absurd (omega arith)
-    go false (waits seq sentCode bytes tries place) e = let z : _≡_ {A = ℕ} 0 1 = cc in absurd (omega arith)
+    go false (waits seq sentCode bytes tries ear) e = let z : _≡_ {A = ℕ} 0 1 = cc in absurd (omega arith)
 
 -- one more failed try of a command tried five times
 abbrev givenUp : ℕ → Turn
 givenUp next = stays (Unfinished 5) (record { next = next; pending = idle })
 
-fails-fifth : (next seq code : ℕ) (bytes : List ℕ) (place : Place) (l : Lent)
-    → failures (record { next = next; pending = waits seq code bytes 5 place }) (l ∷ []) ≡ 1 → says (record { next = next; pending = waits seq code bytes 5 place }) l ≡ givenUp next
-fails-fifth next seq code bytes place l = go (ltb (l .size) (room Command)) (l .happens)
+fails-fifth : (next seq code : ℕ) (bytes : List ℕ) (ear : Ear) (l : Lent)
+    → failures (record { next = next; pending = waits seq code bytes 5 ear }) (l ∷ []) ≡ 1 → says (record { next = next; pending = waits seq code bytes 5 ear }) l ≡ givenUp next
+fails-fifth next seq code bytes ear l = go (ltb (l .size) (room Command)) (l .happens)
   where
     at : State
-    at = record { next = next; pending = waits seq code bytes 5 place }
+    at = record { next = next; pending = waits seq code bytes 5 ear }
 
     meant : (x : Meaning) → failure x + 0 ≡ 1 → onMeaning next seq code bytes 5 x ≡ givenUp next
     meant failed e = refl
@@ -61,7 +60,7 @@ fails-fifth next seq code bytes place l = go (ltb (l .size) (room Command)) (l .
     go : (short : Bool) (h : Happening) → cond short 0 (failureOf (at .pending) h) + 0 ≡ 1 → cond short (stays TooShort at) (takes at h) ≡ givenUp next
     go true h e = absurd (omega arith)
     go false (command other content) e = absurd (omega arith)
-    go false (byte b) e = meant (byteMeans seq code place b) e
+    go false (byte b) e = meant (byteMeans seq code ear b) e
     go false timeout e = refl
 
 -- where none waits, all is at rest until a command is taken
@@ -94,9 +93,9 @@ ends-fifth next code content during l s e =
     subst (λ (z : State). ends (marks z during) ≡ false → failures z during ≡ 4 → failures (behind z during) (l ∷ []) ≡ 1 → Ends (behind z during) l) (sym e)
     (λ on four more.
     let bytes = frame Command (commandOf next code content) in
-    let w = waits-through during (seqAfter next) next code bytes 1 outside (omega arith) on in
-    let at = w .state ∙ ap (λ j. record { next = seqAfter next; pending = waits next code bytes (1 + j) (w .place) }) four in
-    let up = fails-fifth (seqAfter next) next code bytes (w .place) l (sym (ap (λ (z : State). failures z (l ∷ [])) at) ∙ more) in
+    let w = waits-through during (seqAfter next) next code bytes 1 freshEar (omega arith) on in
+    let at = w .state ∙ ap (λ j. record { next = seqAfter next; pending = waits next code bytes (1 + j) (w .ear) }) four in
+    let up = fails-fifth (seqAfter next) next code bytes (w .ear) l (sym (ap (λ (z : State). failures z (l ∷ [])) at) ∙ more) in
     subst (λ (z : State). Ends z l) (sym at) (up, (λ after. subst (λ (t : Turn). restsUntilTaken (t .state) after) (sym up) (rests (seqAfter next) after))))
 
 -- the theorem: with the fifth failed try Unfinished 5 is said, no byte is put, the command is given up; and afterwards every byte and every timeout says Idle

@@ -1,6 +1,6 @@
--- PROTOCOL 4.8: a list cut at the first byte of a kind.
+-- PROTOCOL 4.8 and 4.5: a list cut at the first byte of a kind, and how it begins.
 use Prim.Native.Nat.{ℕ, suc, _+_}
-use mathlib.Core.Bool.{Bool, cond}
+use mathlib.Core.Bool.{Bool, false, cond}
 use mathlib.Core.List.{List, [], _∷_}
 use lib.Dec.{ltb, eqb}
 use lib.ListN.{length, take, drop}
@@ -21,3 +21,8 @@ upTo b xs = take (firstAt b xs) xs
 -- PROTOCOL 4.8: the bytes past the first b: none where there is none
 abbrev pub past : ℕ → List ℕ → List ℕ
 past b xs = drop (firstAt b xs + 1) xs
+
+-- PROTOCOL 4.5: whether the first byte is b
+abbrev pub begins : ℕ → List ℕ → Bool
+begins b [] = false
+begins b (x ∷ xs) = eqb x b

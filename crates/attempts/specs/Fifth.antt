@@ -5,10 +5,10 @@ use mathlib.Core.Bool.{false, cond}
 use mathlib.Core.List.{List, [], _∷_, _++_}
 use mathlib.Core.Logic.{_⊎_}
 use lib.Dec.{ltb}
 use Rattle.till.specs.Turns.{State, freshState, Happening, command, byte, timeout, Turn, stays}
-use Rattle.till.specs.History.{Lent, says, behind, took, marksOf, marks, ends, failures}
+use Rattle.attempts.specs.History.{Lent, says, behind, took, marksOf, marks, ends, failures}
 use Rattle.till.specs.declared.Word.{Word}
 use Rattle.till.specs.declared.Word.the-variants.{Idle, Waiting, TooShort, NotSent}
 
 -- `before`: any events; `taken`: a command that says Waiting; `during`: four tries fail, and the command does not end; `fifth`: one more fails
 pub record FifthFails (before : List Lent) (taken : Lent) (during : List Lent) (fifth : Lent) : Type 0 where

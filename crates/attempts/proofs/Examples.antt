@@ -3,11 +3,11 @@ use mathlib.Core.Path.{_≡_, refl}
 use mathlib.Core.List.{List, [], _∷_, _++_}
 use Rattle.wire.specs.Frame.{commandOf, frame}
 use Rattle.wire.specs.declared.Kind.the-variants.{Command}
 use Rattle.till.specs.Turns.{freshState, seqAfter, command, byte, timeout}
-use Rattle.till.specs.History.{Lent, history, words, putsOf, heardBytes, seqOf}
-use Rattle.till.specs.Handed.{handedIn}
-use Rattle.till.specs.Fifth.{FifthFails}
+use Rattle.attempts.specs.History.{Lent, history, words, putsOf, heardBytes, seqOf}
+use Rattle.attempts.specs.Handed.{handedIn}
+use Rattle.attempts.specs.Fifth.{FifthFails}
 use Rattle.till.specs.declared.Word.the-variants.{Idle, Waiting, SendAgain, Answered, Unfinished, NotSent}
 use Prim.Native.Nat.{ℕ}
 
 abbrev status74 : Lent

@@ -9,15 +9,15 @@ use lib.ListN.{length, length-append}
 use Rattle.wire.specs.Frame.{Message, commandOf, frame, sendable}
 use Rattle.wire.specs.Replies.{room}
 use Rattle.wire.specs.declared.Kind.the-variants.{Command, Answer}
-use Rattle.reader.specs.Reading.{outside, run}
 use Rattle.reader.proofs.RoundTrip.{parts, frame-size}
 use Rattle.reader.proofs.History.{built-is-all-that-is-read}
 use Rattle.till.specs.Turns.{idle, State, freshState, Happening, command, byte, timeout, stays, sent, Meaning, failed, goesOn, answers, byteMeans, failsTry, onMeaning, onCommand, takes}
-use Rattle.till.specs.History.{Lent, says, behind, seqOf, Open, none, one, Seen, watched}
-use Rattle.till.specs.Promises.{Tried}
+use Rattle.attempts.specs.History.{Lent, says, behind, seqOf, Open, none, one, Seen, watched}
+use Rattle.attempts.specs.Promises.{Tried}
 use Rattle.till.specs.declared.Word.the-variants.{TooShort, NotSent}
-use Rattle.till.proofs.Answers.{answers-heard}
-use Rattle.till.proofs.Seeing.{stateSeen, Sound, state-seen, sound-seen, failsBy}
+use Rattle.attempts.proofs.Answers.{answers-heard}
+use Rattle.till.proofs.Turning.{failsBy}
+use Rattle.attempts.proofs.Seeing.{earSeen, stateSeen, Sound, state-seen, sound-seen}
 
 failed-few : (next seq code : ℕ) (bytes : List ℕ) (tries : ℕ) → length bytes ≤ 210 → length (failsTry next seq code bytes tries .puts) ≤ 210
 failed-few next seq code bytes tries few = go (ltb tries 5)
@@ -35,12 +35,12 @@ sent-few k code content = go (sendable Command (commandOf (seqOf k) code content
     go false e = omega arith
 
 byte-few : (k : ℕ) (m : Message) (frames : List (List ℕ)) (since : List ℕ) (b : ℕ) → Tried m frames → (x : Meaning)
-    → byteMeans (m .seq) (m .code) (run Answer outside since .place) b ≡ x
+    → byteMeans (m .seq) (m .code) (earSeen since) b ≡ x
     → length (onMeaning (seqOf k) (m .seq) (m .code) (frame Command m) (length frames) x .puts) ≤ 210
 byte-few k m frames since b tried failed e = failed-few (seqOf k) (m .seq) (m .code) (frame Command m) (length frames) (frame-size Command m (tried .can) .1)
-byte-few k m frames since b tried (goesOn place) e = omega arith
+byte-few k m frames since b tried (goesOn ear) e = omega arith
 byte-few k m frames since b tried (answers a) e =
-    let h = answers-heard (m .seq) (m .code) (run Answer outside since .place) b a e in
+    let h = answers-heard (m .seq) (m .code) (earSeen since) b a e in
     let p = parts Answer a (built-is-all-that-is-read Answer since b a (h .hears) .0) in
     omega (arith, length-append (a .content) (a .status), p .few, p .size)
 
@@ -52,7 +52,7 @@ few-seen seen l sound = go (ltb (l .size) (room Command))
     taken none s (byte b) = omega arith
     taken none s timeout = omega arith
     taken (one m frames since) s (command code content) = omega arith
-    taken (one m frames since) s (byte b) = byte-few (seen .commands) m frames since b s (byteMeans (m .seq) (m .code) (run Answer outside since .place) b) refl
+    taken (one m frames since) s (byte b) = byte-few (seen .commands) m frames since b s (byteMeans (m .seq) (m .code) (earSeen since) b) refl
     taken (one m frames since) s timeout = failed-few (seqOf (seen .commands)) (m .seq) (m .code) (frame Command m) (length frames) (frame-size Command m (s .can) .1)
 
     go : (short : Bool) → length (cond short (stays TooShort (stateSeen seen)) (takes (stateSeen seen) (l .happens)) .puts) ≤ 210

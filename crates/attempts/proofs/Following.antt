@@ -10,29 +10,30 @@ use lib.Seq.{sets, sets-eq, take-at}
 use borrow.Author.Tests.{ltb-true, ltb-false}
 use Rattle.wire.specs.Frame.{commandOf, frame, sendable}
 use Rattle.wire.specs.declared.Kind.the-variants.{Command, Answer}
-use Rattle.reader.specs.Reading.{Place, outside, inside}
+use Rattle.reader.specs.Reading.{outside, inside}
 use Rattle.reader.specs.Fields.{placeOf, readerOf, keptIn}
 use Rattle.reader.specs.declared.Reader.{Reader}
 use Rattle.reader.proofs.RoundTrip.{frame-size}
 use Rattle.reader.proofs.Running.{bytesOf, place-back, read-room}
 use Rattle.till.specs.Words.{numberOf}
-use Rattle.till.specs.Turns.{Pending, idle, waits, State, freshState, Happening, command, byte, timeout, Turn, stays, sent, Meaning, failed, goesOn, answers, byteMeans, onMeaning}
-use Rattle.till.specs.Fields.{pendingOf, stateOf, tillOf, framed, heldIn, refused, saidOf, turnOf}
-use Rattle.till.specs.Promises.{Bytes}
+use Rattle.till.specs.Turns.{Ear, Pending, idle, waits, State, freshState, Happening, command, byte, timeout, Turn, stays, sent, Meaning, failed, goesOn, answers, byteMeans, onMeaning}
+use Rattle.till.specs.Fields.{earIn, pendingOf, stateOf, tillOf, framed, heldIn, refused, saidOf, turnOf}
+use Rattle.attempts.specs.Promises.{Bytes}
 use Rattle.till.specs.Private.{failedBy, heardBy, sentBy}
 use Rattle.till.specs.declared.Attempt.{Attempt}
 use Rattle.till.specs.declared.Slot.{Slot}
 use Rattle.till.specs.declared.Slot.the-variants.{Free, Held}
 use Rattle.till.specs.declared.Till.{Till}
 use Rattle.till.specs.declared.Word.{Word}
 use Rattle.till.specs.declared.Word.the-variants.{Idle, TooShort, NotSent}
 use Rattle.till.proofs.Outer.{read-same, framed-same, not-refused, too-short, byte-idle, byte-held, timeout-idle, timeout-held, command-free, command-held}
-use Rattle.till.proofs.Seeing.{failsBy, goes-place}
+use Rattle.till.proofs.Turning.{failsBy}
+use Rattle.attempts.proofs.Seeing.{goes-on}
 
 -- what stands in the arrays has room there
 abbrev Roomy : Pending → Type 0
 Roomy idle = Unit {0}
-Roomy (waits seq code bytes tries place) = (length bytes ≤ 256) × (length (bytesOf place) ≤ 256)
+Roomy (waits seq code bytes tries ear) = (length bytes ≤ 256) × (length (bytesOf (ear .place)) ≤ 256)
 
 place-few : (r : Reader) (array : List ℕ) → length (bytesOf (placeOf r array)) ≤ r .count
 place-few r array = go (r .inside)
@@ -42,12 +43,12 @@ place-few r array = go (r .inside)
     go false = omega arith
 
 -- a command that waits
-module _ (next : ℕ) (a : Attempt) (frame-in answer-in : List ℕ) (small : (a .count < 256) × (a .reader .count < 256)) where
+module _ (next : ℕ) (a : Attempt) (frame-in answer-in : List ℕ) (small : (a .count < 256) × (a .ear .reader .count < 256)) where
   abbrev held : List ℕ
   held = take (a .count) frame-in
 
-  abbrev at : Place
-  at = placeOf (a .reader) answer-in
+  abbrev at : Ear
+  at = earIn (a .ear) answer-in
 
   held-few : length held ≤ 256
   held-few = omega (arith, length-take (a .count) frame-in, small .0)
@@ -62,7 +63,7 @@ module _ (next : ℕ) (a : Attempt) (frame-in answer-in : List ℕ) (small : (a 
   roomy-byte : (b : ℕ) (x : Meaning) → byteMeans (a .seq) (a .code) at b ≡ x → Roomy (onMeaning next (a .seq) (a .code) held (a .tries) x .state .pending)
   roomy-byte b failed e = roomy-failed
   roomy-byte b (goesOn q) e =
-      (held-few, omega (arith, ap (λ z. length (bytesOf z)) (goes-place (a .seq) (a .code) at b q e), read-room Answer at b, place-few (a .reader) answer-in, small .1))
+      (held-few, omega (arith, ap (λ (z : Ear). length (bytesOf (z .place))) (goes-on (a .seq) (a .code) at b q e), read-room Answer (at .place) b, place-few (a .ear .reader) answer-in, small .1))
   roomy-byte b (answers m) e = tt
 
 made : (s : State) (frame answer : List ℕ) → length frame ≡ 256 → length answer ≡ 256 → Roomy (s .pending)
@@ -71,11 +72,11 @@ made s frame answer sf sa roomy = go (s .pending) roomy
   where
     go : (p : Pending) → Roomy p → stateOf (tillOf (record { next = s .next; pending = p })) (framed frame p) (heldIn answer p) ≡ record { next = s .next; pending = p }
     go idle h = refl
-    go (waits seq code bytes tries place) h =
+    go (waits seq code bytes tries ear) h =
         let held : take (length bytes) (sets frame 0 bytes) ≡ bytes =
         ap (take (length bytes)) (sets-eq bytes frame 0 (omega (arith, h .0))) ∙ take-at bytes (drop (0 + length bytes) frame) (length bytes) refl in
-        let read-back : placeOf (readerOf place) (keptIn answer place) ≡ place = place-back answer place (omega (arith, h .1)) in
-        λ i. record { next = s .next; pending = waits seq code (held i) tries (read-back i) }
+        let read-back : placeOf (readerOf (ear .place)) (keptIn answer (ear .place)) ≡ ear .place = place-back answer (ear .place) (omega (arith, h .1)) in
+        λ i. record { next = s .next; pending = waits seq code (held i) tries (record { place = read-back i }) }
 
 module _ (t : Till) (frame-in answer-in : List ℕ) (sf : length frame-in ≡ 256) (sa : length answer-in ≡ 256) (bytes-in : Bytes (t .slot)) where
   abbrev Follows : Turn → Type 0
@@ -111,10 +112,10 @@ module _ (t : Till) (frame-in answer-in : List ℕ) (sf : length frame-in ≡ 25
     free e timeout = subst Follows (sym (timeout-idle t frame-in answer-in buf big e))
         (follows-made (stays Idle (stateOf t frame-in answer-in)) refl (subst (λ z. Roomy (pendingOf z frame-in answer-in)) (sym e) tt))
 
-    waiting : (a : Attempt) → t .slot ≡ Held a → (a .count < 256) × (a .reader .count < 256) → (h : Happening) → Follows (turnOf t frame-in answer-in buf h)
+    waiting : (a : Attempt) → t .slot ≡ Held a → (a .count < 256) × (a .ear .reader .count < 256) → (h : Happening) → Follows (turnOf t frame-in answer-in buf h)
     waiting a e small (command code content) = subst Follows (sym (command-held t frame-in answer-in buf big code content a e)) (follows-stays NotSent refl)
     waiting a e small (byte b) =
-        let means : Meaning = byteMeans (a .seq) (a .code) (placeOf (a .reader) answer-in) b in
+        let means : Meaning = byteMeans (a .seq) (a .code) (earIn (a .ear) answer-in) b in
         subst Follows (sym (byte-held t frame-in answer-in buf big b a e))
         (follows-made (heardBy (t .next) a frame-in answer-in b) (not-refused (t .next) (a .seq) (a .code) (take (a .count) frame-in) (a .tries) means)
         (roomy-byte (t .next) a frame-in answer-in small b means refl))

@@ -17,10 +17,10 @@ use Rattle.reader.specs.Reading.{Place, outside, inside, nothing, heard, read, 
 use Rattle.reader.proofs.Walking.{run-first}
 use Rattle.reader.proofs.Steps.{read-start}
 use Rattle.reader.proofs.RoundTrip.{Parts, parts, read-what-was-built}
-use Rattle.till.specs.Turns.{Pending, idle, waits, State, byte, Turn, stays, gives, failed, readAs, nakOutside, onMeaning}
-use Rattle.till.specs.History.{says, behind, history, heardBytes, words, putsOf}
+use Rattle.till.specs.Turns.{Ear, earAfter, Pending, idle, waits, State, byte, Turn, stays, gives, failed, readAs, nakOutside, onMeaning}
+use Rattle.attempts.specs.History.{says, behind, history, heardBytes, words, putsOf}
 use Rattle.till.specs.declared.Word.the-variants.{Waiting, Answered}
-use Rattle.till.proofs.Answers.{heard-answers}
+use Rattle.attempts.proofs.Answers.{heard-answers}
 
 -- no byte of an answer's frame is NAK
 abbrev No-nak : List ℕ → Type 0
@@ -78,23 +78,27 @@ no-nak-place outside b h = ne-eqb b 0x15 h
 no-nak-place (inside sum bytes) b h = refl
 
 module _ (next seq code : ℕ) (bytes : List ℕ) (tries : ℕ) where
-  abbrev at : Place → State
-  at p = record { next = next; pending = waits seq code bytes tries p }
+  abbrev at : Ear → State
+  at ear = record { next = next; pending = waits seq code bytes tries ear }
 
   abbrev done : State
   done = record { next = next; pending = idle }
 
-  goes : (p : Place) (b : ℕ) → (b ≡ 0x15 → ⊥) → read Answer p b .event ≡ nothing
-      → says (at p) (record { size = 210; happens = byte b }) ≡ stays (Waiting 0) (at (read Answer p b .place))
-  goes p b h e =
-      ap (λ n. onMeaning next seq code bytes tries (cond n failed (readAs seq code b (read Answer p b .place) (read Answer p b .event)))) (no-nak-place p b h)
-      ∙ ap (λ z. onMeaning next seq code bytes tries (readAs seq code b (read Answer p b .place) z)) e
+  goes : (ear : Ear) (b : ℕ) → (b ≡ 0x15 → ⊥) → read Answer (ear .place) b .event ≡ nothing
+      → says (at ear) (record { size = 210; happens = byte b }) ≡ stays (Waiting 0) (at (earAfter ear b))
+  goes ear b h e =
+      ap (λ n. onMeaning next seq code bytes tries (cond n failed (readAs seq code b (earAfter ear b) (read Answer (ear .place) b .event)))) (no-nak-place (ear .place) b h)
+      ∙ ap (λ z. onMeaning next seq code bytes tries (readAs seq code b (earAfter ear b) z)) e
 
   -- 01h, wherever reading stands
-  starts : (p : Place) → says (at p) (record { size = 210; happens = byte 0x01 }) ≡ stays (Waiting 0) (at (inside 0 []))
-  starts outside = refl
-  starts (inside sum []) = refl
-  starts (inside sum (b ∷ since)) = refl
+  starts : (ear : Ear) → says (at ear) (record { size = 210; happens = byte 0x01 }) ≡ stays (Waiting 0) (at (earAfter ear 0x01))
+  starts ear = go (ear .place)
+    where
+      go : (p : Place) → onMeaning next seq code bytes tries (cond (nakOutside p 0x01) failed (readAs seq code 0x01 (earAfter ear 0x01) (startsAnew p)))
+          ≡ stays (Waiting 0) (at (earAfter ear 0x01))
+      go outside = refl
+      go (inside sum []) = refl
+      go (inside sum (b ∷ since)) = refl
 
   -- a run of bytes, heard
   abbrev Heard : State → List ℕ → ℕ → Message → Type 0
@@ -112,37 +116,37 @@ module _ (next seq code : ℕ) (bytes : List ℕ) (tries : ℕ) where
     ),
   )
 
-  the-last : (p : Place) (b : ℕ) (m : Message) → m .seq ≡ seq → m .code ≡ code → read Answer p b .event ≡ heard m → Heard (at p) (b ∷ []) 0 m
-  the-last p b m es ec e =
-      let turn : says (at p) (record { size = 210; happens = byte b }) ≡ gives Answered (m .content ++ m .status) done =
-      ap (onMeaning next seq code bytes tries) (heard-answers seq code p b m (record { hears = e; seq-is = es; code-is = ec })) in
+  the-last : (ear : Ear) (b : ℕ) (m : Message) → m .seq ≡ seq → m .code ≡ code → read Answer (ear .place) b .event ≡ heard m → Heard (at ear) (b ∷ []) 0 m
+  the-last ear b m es ec e =
+      let turn : says (at ear) (record { size = 210; happens = byte b }) ≡ gives Answered (m .content ++ m .status) done =
+      ap (onMeaning next seq code bytes tries) (heard-answers seq code ear b m (record { hears = e; seq-is = es; code-is = ec })) in
       (ap (λ (z : Turn). z .word ∷ []) turn, (ap (λ (z : Turn). z .puts ∷ []) turn, ap (λ (z : Turn). z .state) turn))
 
-  walk : (bs : List ℕ) (p : Place) (n : ℕ) (m : Message) → m .seq ≡ seq → m .code ≡ code → No-nak bs
-      → run Answer p bs .events ≡ replicate n nothing ++ heard m ∷ [] → Heard (at p) bs n m
-  walk [] p n m es ec h e = absurd (omega (arith, ap length e, length-append (replicate n nothing) (heard m ∷ [])))
-  walk (b ∷ []) p zero m es ec h e = the-last p b m es ec (cc)
-  walk (b ∷ c ∷ bs) p zero m es ec h e = let z : _≡_ {A = ℕ} 0 1 = cc in absurd (omega arith)
-  walk (b ∷ bs) p (suc n) m es ec h e =
-      let first : read Answer p b .event ≡ nothing = cc in
-      let others : run Answer (read Answer p b .place) bs .events ≡ replicate n nothing ++ heard m ∷ [] = cc in
-      one-more (at p) (at (read Answer p b .place)) b bs n m (goes p b (h .0) first) (walk bs (read Answer p b .place) n m es ec (h .1) others)
+  walk : (bs : List ℕ) (ear : Ear) (n : ℕ) (m : Message) → m .seq ≡ seq → m .code ≡ code → No-nak bs
+      → run Answer (ear .place) bs .events ≡ replicate n nothing ++ heard m ∷ [] → Heard (at ear) bs n m
+  walk [] ear n m es ec h e = absurd (omega (arith, ap length e, length-append (replicate n nothing) (heard m ∷ [])))
+  walk (b ∷ []) ear zero m es ec h e = the-last ear b m es ec (cc)
+  walk (b ∷ c ∷ bs) ear zero m es ec h e = let z : _≡_ {A = ℕ} 0 1 = cc in absurd (omega arith)
+  walk (b ∷ bs) ear (suc n) m es ec h e =
+      let first : read Answer (ear .place) b .event ≡ nothing = cc in
+      let others : run Answer (earAfter ear b .place) bs .events ≡ replicate n nothing ++ heard m ∷ [] = cc in
+      one-more (at ear) (at (earAfter ear b)) b bs n m (goes ear b (h .0) first) (walk bs (earAfter ear b) n m es ec (h .1) others)
 
-  whole : (p : Place) (m : Message) → sendable Answer m ≡ true → m .seq ≡ seq → m .code ≡ code → Heard (at p) (frame Answer m) (suc (length (inner Answer m) + 8)) m
-  whole p m can es ec =
-      let events : startsAnew p ∷ run Answer (inside 0 []) (rest m) .events ≡ startsAnew p ∷ (replicate (length (inner Answer m) + 8) nothing ++ heard m ∷ []) =
-      ap (λ (r : Run). r .events) (sym (run-first Answer p 0x01 (rest m) _ (read-start Answer p 0x01 refl)) ∙ read-what-was-built Answer m can p) in
-      one-more (at p) (at (inside 0 [])) 0x01 (rest m) (length (inner Answer m) + 8) m (starts p)
-      (walk (rest m) (inside 0 []) (length (inner Answer m) + 8) m es ec (no-nak-rest m (parts Answer m can)) (cc))
+  whole : (ear : Ear) (m : Message) → sendable Answer m ≡ true → m .seq ≡ seq → m .code ≡ code → Heard (at ear) (frame Answer m) (suc (length (inner Answer m) + 8)) m
+  whole ear m can es ec =
+      let events : startsAnew (ear .place) ∷ run Answer (inside 0 []) (rest m) .events ≡ startsAnew (ear .place) ∷ (replicate (length (inner Answer m) + 8) nothing ++ heard m ∷ []) =
+      ap (λ (r : Run). r .events) (sym (run-first Answer (ear .place) 0x01 (rest m) _ (read-start Answer (ear .place) 0x01 refl)) ∙ read-what-was-built Answer m can (ear .place)) in
+      one-more (at ear) (at (earAfter ear 0x01)) 0x01 (rest m) (length (inner Answer m) + 8) m (starts ear)
+      (walk (rest m) (earAfter ear 0x01) (length (inner Answer m) + 8) m es ec (no-nak-rest m (parts Answer m can)) (cc))
 
 -- the theorem
-pub answer-heard : (s : State) (seq code : ℕ) (bytes : List ℕ) (tries : ℕ) (place : Place) → s .pending ≡ waits seq code bytes tries place
+pub answer-heard : (s : State) (seq code : ℕ) (bytes : List ℕ) (tries : ℕ) (ear : Ear) → s .pending ≡ waits seq code bytes tries ear
     → (m : Message) → sendable Answer m ≡ true → m .seq ≡ seq → m .code ≡ code
     → (words (history s (heardBytes (frame Answer m))) ≡ replicate (length (frame Answer m) - 1) (Waiting 0) ++ Answered (length (m .content ++ m .status)) ∷ [])
     × ((putsOf (history s (heardBytes (frame Answer m))) ≡ replicate (length (frame Answer m) - 1) [] ++ (m .content ++ m .status) ∷ [])
     × (behind s (heardBytes (frame Answer m)) ≡ record { next = s .next; pending = idle }))
-answer-heard s seq code bytes tries place e m can es ec =
+answer-heard s seq code bytes tries ear e m can es ec =
     let size : suc (length (inner Answer m) + 8) ≡ length (frame Answer m) - 1 = omega (arith, length-enclosed (m .seq) (m .code) (inner Answer m)) in
     subst (λ (p : Pending). Heard (s .next) seq code bytes tries (record { next = s .next; pending = p }) (frame Answer m) (length (frame Answer m) - 1) m) (sym e)
-    (subst (λ n. Heard (s .next) seq code bytes tries (record { next = s .next; pending = waits seq code bytes tries place }) (frame Answer m) n m) size
-    (whole (s .next) seq code bytes tries place m can es ec))
+    (subst (λ n. Heard (s .next) seq code bytes tries (record { next = s .next; pending = waits seq code bytes tries ear }) (frame Answer m) n m) size
+    (whole (s .next) seq code bytes tries ear m can es ec))

@@ -6,10 +6,10 @@ use mathlib.Core.List.{List, [], _∷_, _++_}
 use lib.ListN.{length, replicate}
 use Rattle.wire.specs.Frame.{Message, frame, sendable}
 use Rattle.wire.specs.declared.Kind.the-variants.{Command, Answer}
 use Rattle.till.specs.Turns.{byte}
-use Rattle.till.specs.History.{Lent, one, Seen}
+use Rattle.attempts.specs.History.{Lent, one, Seen}
 use Rattle.till.specs.declared.Slot.{Slot}
 use Rattle.till.specs.declared.Slot.the-variants.{Free, Held}
 
 -- PROTOCOL 7.6: the frames handed out for a command: one to five, and all of them its own frame
 pub record Tried (m : Message) (frames : List (List ℕ)) : Type 0 where
@@ -48,4 +48,4 @@ pub record Came (seen : Seen) (l : Lent) : Type 0 where
 -- a command's fields are bytes: their types say so
 abbrev pub Bytes : Slot → Type 0
 Bytes Free = Unit {0}
-Bytes (Held a) = (a .count < 256) × (a .reader .count < 256)
+Bytes (Held a) = (a .count < 256) × (a .ear .reader .count < 256)

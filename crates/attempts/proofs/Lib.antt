@@ -1,0 +1,9 @@
+pub mod Seeing
+pub mod Answers
+pub mod Tries
+pub mod Room
+pub mod Frames
+pub mod Following
+pub mod Examples
+pub mod Handing
+pub mod Fifth
