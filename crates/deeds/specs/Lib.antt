@@ -1,4 +1,5 @@
-pub mod Holds
+pub mod Views
 pub mod Reasons
 pub mod Effects
+pub mod Rules
 pub mod Deeds

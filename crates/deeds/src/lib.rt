@@ -2,18 +2,21 @@
 pub mod day;
 pub mod openings;
 pub mod sales;
+pub mod views;
 
 use books::Books;
 use books::Shown;
+use books::parts;
 use books::sound;
 use kinds::Command;
-use kinds::Service;
-use kinds::Tender;
+use views::View;
+use views::When;
 ghost use mathlib.Core.Path.{_≡_};
 ghost use mathlib.Core.Bool.{true, _||_};
 ghost use Rattle.books.specs.Sound.{sound};
+ghost use Rattle.deeds.specs.Reasons.{isPrice, unmet};
 ghost use Rattle.deeds.specs.Deeds.{refusedWith, done, deedOf, carriedOut};
-ghost use Rattle.deeds.specs.Holds.{tenderHolds, serviceHolds, holds};
+ghost use Rattle.deeds.specs.declared.views.View.the-variants.{Asks};
 
 // The books afterwards, with the reply number and what the answer shows.
 pub struct Deed {
@@ -22,97 +25,65 @@ pub struct Deed {
     pub shown: Shown,
 }
 
+// Any command on any books.
 pub fn carry_out(books: Books, command: Command) -> Deed
     ensures { λ r. ⌜ r ≡ carriedOut books command ⌝ }
 {
-    if !can_hold(command) {
-        return refuse(1, books);
-    }
     if !sound::is_sound(books) {
         return refuse(4, books);
     }
-    act(books, command)
+    act(books, views::view_of(command))
 }
 
-// Numbers of the command's own fields: no data is read as any other.
-fn can_hold(command: Command) -> bool
-    ensures { λ r. ⌜ r ≡ holds command ⌝ }
-{
-    match command {
-        Command::OpenText => true,
-        Command::CloseText => true,
-        Command::PrintText => true,
-        Command::Open {
-            op: _,
-            password: _,
-            till: _,
-        } => true,
-        Command::Sell(s) => receipt::fits_sale(s),
-        Command::Subtotal { print: _, show: _ } => true,
-        Command::Pay(p) => {
-            let tender = p.tender;
-            holds_tender(tender)
-        }
-        Command::Close => true,
-        Command::Cancel => true,
-        Command::Sums { taxes: _ } => true,
-        Command::Closing { clears: _ } => true,
-        Command::Drawer(s) => holds_service(s),
-        Command::Status => true,
-        Command::Rates => true,
-    }
-}
-
-fn holds_tender(tender: Tender) -> bool
-    ensures { λ r. ⌜ r ≡ tenderHolds tender ⌝ }
-{
-    match tender {
-        Tender::Rest => true,
-        Tender::Amount(n) => {
-            if n <= 0 {
-                return false;
-            }
-            n < 10000000000
-        }
-    }
-}
-
-fn holds_service(service: Service) -> bool
-    ensures { λ r. ⌜ r ≡ serviceHolds service ⌝ }
-{
-    match service {
-        Service::Report => true,
-        Service::In(n) => n < 10000000000,
-        Service::Out(n) => n < 10000000000,
-    }
-}
-
-fn act(books: Books, command: Command) -> Deed
+fn act(books: Books, view: View) -> Deed
     requires { ⌜ sound books ≡ true ⌝ }
-    ensures { λ r. ⌜ r ≡ deedOf books command ⌝ }
+    ensures { λ r. ⌜ r ≡ deedOf books view ⌝ }
 {
-    match command {
-        Command::OpenText => openings::open_text(books),
-        Command::CloseText => openings::close_text(books),
-        Command::PrintText => openings::print_text(books),
-        Command::Open {
-            op: _,
-            password,
-            till: _,
-        } => openings::open_fiscal(books, password),
-        Command::Sell(s) => sales::sell(books, s),
-        Command::Subtotal { print: _, show: _ } => sales::subtotal(books),
-        Command::Pay(p) => sales::pay(books, p),
-        Command::Close => sales::close(books),
-        Command::Cancel => sales::cancel(books),
-        Command::Sums { taxes } => day::sums(books, taxes),
-        Command::Closing { clears } => day::closing(books, clears),
-        Command::Drawer(s) => day::serve(books, s),
-        Command::Status => finish(books, Shown::Status),
-        Command::Rates => finish(books, Shown::Rates),
+    match view {
+        View::Opens(p) => openings::open_fiscal(books, p),
+        View::Sells(s) => sales::sell(books, s),
+        View::Pays(p) => sales::pay(books, p),
+        View::Closes => sales::close(books),
+        View::Cancels => sales::cancel(books),
+        View::OpensText => openings::open_text(books),
+        View::ClosesText => openings::close_text(books),
+        View::Clears => day::clear(books),
+        View::Puts(n) => day::put_in(books, n),
+        View::Takes(n) => day::take_out(books, n),
+        View::Asks { when, shown } => ask(books, when, shown),
     }
 }
 
+// Every command that changes nothing: 42, 51, 65, 69 with `2`, 70 without an amount, 74, 97.
+pub fn ask(books: Books, when: When, shown: Shown) -> Deed
+    ensures { λ r. ⌜ r ≡ deedOf books (Asks when shown) ⌝ }
+{
+    if is_unmet(books, when) {
+        return refuse(3, books);
+    }
+    finish(books, shown)
+}
+
+fn is_unmet(books: Books, when: When) -> bool
+    ensures { λ r. ⌜ r ≡ unmet books when ⌝ }
+{
+    let opened = books.opened;
+    match when {
+        When::Always => false,
+        When::FiscalIsOpen => !parts::fiscal_open(opened),
+        When::TextIsOpen => !parts::text_open(opened),
+        When::NoneIsOpen => parts::any_open(opened),
+    }
+}
+
+// Ten digits of stotinki at most.
+pub fn is_price(n: u64) -> bool
+    ensures { λ r. ⌜ r ≡ isPrice n ⌝ }
+{
+    n < 10000000000
+}
+
+// A refusal: the books stay.
 pub fn refuse(number: u64, books: Books) -> Deed
     ensures { λ r. ⌜ r ≡ refusedWith number books ⌝ }
 {
@@ -123,6 +94,7 @@ pub fn refuse(number: u64, books: Books) -> Deed
     }
 }
 
+// A command done: number 0.
 pub fn finish(books: Books, shown: Shown) -> Deed
     ensures { λ r. ⌜ r ≡ done books shown ⌝ }
 {
@@ -133,6 +105,7 @@ pub fn finish(books: Books, shown: Shown) -> Deed
     }
 }
 
+// One reason or the other.
 pub fn either(a: bool, b: bool) -> bool
     ensures { λ r. ⌜ r ≡ (a || b) ⌝ }
 {

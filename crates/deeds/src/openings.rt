@@ -1,4 +1,4 @@
-// Receipts opened, and the non-fiscal kind (38, 39, 42, 48).
+// Receipts opened, and the non-fiscal kind closed (38, 39, 48).
 use crate::Deed;
 use crate::either;
 use crate::finish;
@@ -14,14 +14,27 @@ use receipt::Receipt;
 ghost use mathlib.Core.Path.{_≡_};
 ghost use mathlib.Core.Bool.{true};
 ghost use Rattle.books.specs.Sound.{sound};
-ghost use Rattle.deeds.specs.Deeds.{isRight, full, textOpened, textClosed, textPrinted, openedBy};
+ghost use Rattle.deeds.specs.Reasons.{isRight, full, manyOpened};
+ghost use Rattle.deeds.specs.Deeds.{deedOf};
+ghost use Rattle.deeds.specs.declared.views.View.the-variants.{Opens, OpensText, ClosesText};
 
+// All at its end: no receipt of either kind is opened any more until the day is closed.
+const MOST_RECEIPTS: u64 = 9999;
+
+fn are_many(books: Books) -> bool
+    ensures { λ r. ⌜ r ≡ manyOpened books ⌝ }
+{
+    let counters = books.counters;
+    MOST_RECEIPTS <= counters.all
+}
+
+// 38: a non-fiscal receipt is opened.
 pub fn open_text(books: Books) -> Deed
-    ensures { λ r. ⌜ r ≡ textOpened books ⌝ }
+    ensures { λ r. ⌜ r ≡ deedOf books OpensText ⌝ }
 {
     let opened = books.opened;
     let counters = books.counters;
-    if either(parts::any_open(opened), 9999 <= counters.all) {
+    if either(parts::any_open(opened), are_many(books)) {
         return refuse(3, books);
     }
     let receipt = books.receipt;
@@ -35,18 +48,9 @@ pub fn open_text(books: Books) -> Deed
     )
 }
 
-pub fn print_text(books: Books) -> Deed
-    ensures { λ r. ⌜ r ≡ textPrinted books ⌝ }
-{
-    let opened = books.opened;
-    if !parts::text_open(opened) {
-        return refuse(3, books);
-    }
-    finish(books, Shown::Nothing)
-}
-
+// 39: the non-fiscal receipt is closed.
 pub fn close_text(books: Books) -> Deed
-    ensures { λ r. ⌜ r ≡ textClosed books ⌝ }
+    ensures { λ r. ⌜ r ≡ deedOf books ClosesText ⌝ }
 {
     let opened = books.opened;
     if !parts::text_open(opened) {
@@ -68,21 +72,23 @@ fn is_right(p: Password) -> bool
     false
 }
 
+// Whether the fiscal memory takes no closing more.
 pub fn is_full(books: Books) -> bool
     ensures { λ r. ⌜ r ≡ full books ⌝ }
 {
     let memory = books.memory;
-    rates::most() <= memory.closings
+    rates::capacity(books) <= memory.closings
 }
 
+// 48: a fiscal receipt is opened.
 pub(crate) fn open_fiscal(books: Books, password: Password) -> Deed
     requires { ⌜ sound books ≡ true ⌝ }
-    ensures { λ r. ⌜ r ≡ openedBy books password ⌝ }
+    ensures { λ r. ⌜ r ≡ deedOf books (Opens password) ⌝ }
 {
     let opened = books.opened;
     let counters = books.counters;
     let mut barred = either(!is_right(password), parts::any_open(opened));
-    barred = either(barred, 9999 <= counters.all);
+    barred = either(barred, are_many(books));
     if either(barred, is_full(books)) {
         return refuse(3, books);
     }

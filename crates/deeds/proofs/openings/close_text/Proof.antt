@@ -1,6 +1,7 @@
-use mathlib.Core.Path.{sym, _∙_}
-use borrow.Author.Tests.{not-true, not-false}
-use Rattle.deeds.proofs.Judging.{closed-3, closed-0}
+use mathlib.Core.Path.{refl, sym, ap, _∙_}
+use mathlib.Core.Bool.{not}
+use Rattle.deeds.proofs.Judging.{barred, allowed}
+use Rattle.deeds.specs.declared.views.View.the-variants.{ClosesText}
 use borrow.Author.Needs.{needs}
 use Rattle.deeds.proofs.openings.close_text.Statement.{statement}
 use Rattle.deeds.proofs.openings.close_text.Tie as tie
@@ -12,7 +13,9 @@ refuse-requires : tie.Need-refuse-requires
 refuse-requires c κs = search needs
 
 returns : tie.Need-returns
-returns c = c .refuse .ensures ∙ closed-3 (c .before .before .before .args .books) (sym (c .before .before .text-open .ensures) ∙ not-true _ (c .before .if1 .taken))
+returns c =
+    let k = c .before .before in
+    c .refuse .ensures ∙ barred (k .before .args .books) ClosesText refl (ap not (sym (k .text-open .ensures)) ∙ c .before .if1 .taken)
 
 with-receipt-requires : tie.Need-with-receipt-requires
 with-receipt-requires c κs = search needs
@@ -21,7 +24,11 @@ finish-requires : tie.Need-finish-requires
 finish-requires c κs = search needs
 
 returns-2 : tie.Need-returns-2
-returns-2 c = rw (c .finish .ensures, c .before .with-receipt .ensures) (closed-0 (c .before .before .before .before .before .args .books) (sym (c .before .before .before .before .text-open .ensures) ∙ not-false _ (c .before .before .before .if1 .left)))
+returns-2 c =
+    let i = c .before .before .before in
+    let k = i .before in
+    rw (c .finish .ensures, c .before .with-receipt .ensures)
+    (allowed (k .before .args .books) ClosesText refl (ap not (sym (k .text-open .ensures)) ∙ i .if1 .left) refl)
 
 pub close-text-spec : {M : Type 1} → statement M
 close-text-spec =

@@ -1,14 +1,16 @@
-use mathlib.Core.Path.{sym, ap, _∙_}
-use mathlib.Core.Bool.{_||_}
+use mathlib.Core.Path.{refl, _∙_}
 use native.Mathlib.Omega.{arith}
-use Rattle.deeds.proofs.Judging.{textual-3, textual-0, not-full}
-use lib.Dec.{leb}
+use Rattle.deeds.proofs.Judging.{same-or, barred, allowed, few-texts}
+use Rattle.deeds.specs.declared.views.View.the-variants.{OpensText}
 use borrow.Author.Needs.{needs}
 use Rattle.deeds.proofs.openings.open_text.Statement.{statement}
 use Rattle.deeds.proofs.openings.open_text.Tie as tie
 
 any-open-requires : tie.Need-any-open-requires
 any-open-requires c κs = search needs
+
+are-many-requires : tie.Need-are-many-requires
+are-many-requires c κs = search needs
 
 either-requires : tie.Need-either-requires
 either-requires c κs = search needs
@@ -18,13 +20,16 @@ refuse-requires c κs = search needs
 
 returns : tie.Need-returns
 returns c =
-    let b = c .before .before .before .before .before .before .args .books in
-    c .refuse .ensures ∙ textual-3 b (ap (λ z. z || leb 9999 (b .counters .all)) (sym (c .before .before .before .before .any-open .ensures)) ∙ sym (c .before .before .either .ensures) ∙ c .before .if1 .taken)
+    let k = c .before .before in
+    let b = k .before .before .before .before .args .books in
+    c .refuse .ensures ∙ barred b OpensText refl (same-or (k .before .before .any-open .ensures) (k .before .are-many .ensures) (k .either .ensures) ∙ c .before .if1 .taken)
 
 add-t9 : tie.Need-add-t9
 add-t9 c =
-    let b = c .before .before .before .before .before .before .before .args .books in
-    omega (arith, not-full b (ap (λ z. z || leb 9999 (b .counters .all)) (sym (c .before .before .before .before .before .any-open .ensures)) ∙ sym (c .before .before .before .either .ensures) ∙ c .before .before .if1 .left))
+    let k = c .before .before .before in
+    let b = k .before .before .before .before .args .books in
+    let e = same-or (k .before .before .any-open .ensures) (k .before .are-many .ensures) (k .either .ensures) ∙ c .before .before .if1 .left in
+    omega (arith, few-texts b e)
 
 with-receipt-requires : tie.Need-with-receipt-requires
 with-receipt-requires c κs = search needs
@@ -37,15 +42,18 @@ finish-requires c κs = search needs
 
 returns-2 : tie.Need-returns-2
 returns-2 c =
-    let b = c .before .before .before .before .before .before .before .before .before .before .args .books in
+    let i = c .before .before .before .before .before in
+    let k = i .before in
+    let b = k .before .before .before .before .args .books in
     rw (c .finish .ensures, c .before .with-counters .ensures, c .before .before .with-receipt .ensures)
-    (textual-0 b (ap (λ z. z || leb 9999 (b .counters .all)) (sym (c .before .before .before .before .before .before .before .before .any-open .ensures)) ∙ sym (c .before .before .before .before .before .before .either .ensures) ∙ c .before .before .before .before .before .if1 .left))
+    (allowed b OpensText refl (same-or (k .before .before .any-open .ensures) (k .before .are-many .ensures) (k .either .ensures) ∙ i .if1 .left) refl)
 
 pub open-text-spec : {M : Type 1} → statement M
 open-text-spec =
     tie.close
     (tie.spec
     any-open-requires
+    are-many-requires
     either-requires
     refuse-requires
     returns
