@@ -7,9 +7,9 @@ use Rattle.books.specs.declared.Books.{Books}
 use Rattle.books.specs.declared.Shown.{Shown}
 use Rattle.books.specs.declared.Shown.the-variants as shown
 use Rattle.deeds.specs.declared.Deed.{Deed}
-use Rattle.deeds.specs.declared.views.View.{View}
-use Rattle.deeds.specs.Views.{viewOf}
-use Rattle.deeds.specs.Rules.{Rule, ruleOf}
+use Rattle.rules.specs.declared.views.View.{View}
+use Rattle.rules.specs.Views.{viewOf}
+use Rattle.rules.specs.Rules.{Rule, ruleOf}
 
 -- PROTOCOL 2.3, 5.1: a refusal changes nothing in the books, and its answer has no data
 abbrev pub refusedWith : ℕ → Books → Deed

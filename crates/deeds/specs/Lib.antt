@@ -1,5 +1,1 @@
-pub mod Views
-pub mod Reasons
-pub mod Effects
-pub mod Rules
 pub mod Deeds

@@ -1,6 +1,6 @@
 use mathlib.Core.Path.{refl, sym, _∙_}
 use Rattle.deeds.proofs.Judging.{barred, allowed}
-use Rattle.deeds.specs.declared.views.View.the-variants.{Asks}
+use Rattle.rules.specs.declared.views.View.the-variants.{Asks}
 use borrow.Author.Needs.{needs}
 use Rattle.deeds.proofs.ask.Statement.{statement}
 use Rattle.deeds.proofs.ask.Tie as tie
