@@ -2,33 +2,25 @@
 pub mod fiscal;
 
 use books::Books;
-use books::sound;
 use deeds::Deed;
 use deeds::ask;
 use deeds::drawer;
-use deeds::refuse;
 use deeds::sales;
 use deeds::texts;
 use kinds::Command;
 use rules::views;
 use rules::views::View;
 ghost use mathlib.Core.Path.{_≡_};
-ghost use mathlib.Core.Bool.{true};
-ghost use Rattle.books.specs.Sound.{sound};
 ghost use Rattle.deeds.specs.Deeds.{deedOf, carriedOut};
 
 // Any command on any books.
 pub fn carry_out(books: Books, command: Command) -> Deed
     ensures { λ r. ⌜ r ≡ carriedOut books command ⌝ }
 {
-    if !sound::is_sound(books) {
-        return refuse(4, books);
-    }
     act(books, views::view_of(command))
 }
 
 fn act(books: Books, view: View) -> Deed
-    requires { ⌜ sound books ≡ true ⌝ }
     ensures { λ r. ⌜ r ≡ deedOf books view ⌝ }
 {
     match view {

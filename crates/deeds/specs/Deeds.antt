@@ -2,7 +2,6 @@
 use Prim.Native.Nat.{ℕ}
 use mathlib.Core.Bool.{cond}
 use Rattle.kinds.specs.declared.Command.{Command}
-use Rattle.books.specs.Sound.{sound}
 use Rattle.books.specs.declared.Books.{Books}
 use Rattle.books.specs.declared.Shown.{Shown}
 use Rattle.books.specs.declared.Shown.the-variants as shown
@@ -30,6 +29,5 @@ judged b r =
 abbrev pub deedOf : Books → View → Deed
 deedOf b v = judged b (ruleOf b v)
 
--- PROTOCOL 8.7, DECISIONS 26: books that no fresh device can come to are refused with 4, and stay
 abbrev pub carriedOut : Books → Command → Deed
-carriedOut b c = cond (sound b) (deedOf b (viewOf c)) (refusedWith 4 b)
+carriedOut b c = deedOf b (viewOf c)

@@ -31,7 +31,7 @@ digits-fit b h =
     let k : Kept b = parts b (h .fits) in
     let d : DrawerIn (b .drawer) = drawer-in (b .drawer) (k .drawer) in
     let m = memory-in b (k .memory) in
-    let days = within-eight (at (b .day)) (day-within b k) in
+    let days = within-eight (at (b .day)) (day-within b (k .groups)) in
     record {
       total = omega (arith, k .total);
       groups = λ g lt. omega (arith, k .total, h .receipt .total, group-most (b .receipt .groups) g (h .receipt .eight-groups));

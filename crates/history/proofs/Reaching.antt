@@ -1,13 +1,14 @@
 -- What holds of the books in every state that a fresh device can reach.
 use mathlib.Core.Path.{_≡_, refl, sym, ap, _∙_}
-use mathlib.Core.Bool.{Bool, true, false, cond, false≢true}
+use mathlib.Core.Bool.{Bool, true, false, cond, not, _||_, false≢true}
 use Prim.Native.Nat.{ℕ, _+_, _-_, _≤_, min}
 use native.Mathlib.Omega.{arith}
 use lib.Dec.{ltb}
 use lib.ListN.{length, set, length-set}
-use borrow.Author.Tests.{leb-true, not-false}
+use borrow.Author.Tests.{leb-true, lt-leb, le-ltb, not-false}
 use Rattle.kinds.specs.declared.Command.{Command}
 use Rattle.kinds.specs.declared.Mode.{Mode}
+use Rattle.kinds.specs.declared.Password.{Password}
 use Rattle.kinds.specs.declared.Payment.{Payment}
 use Rattle.kinds.specs.declared.Sale.{Sale}
 use Rattle.receipt.specs.Lines.{productOf, finishedOf}
@@ -19,14 +20,16 @@ use Rattle.books.specs.Sound.{sound}
 use Rattle.books.specs.declared.Books.{Books}
 use Rattle.books.specs.declared.Opened.{Opened}
 use Rattle.books.specs.declared.Opened.the-variants.{Nothing, Fiscal, Text}
+use Rattle.books.proofs.Eight.{capacity-small}
+use Rattle.books.proofs.Sounding.{memory-in, parts, within-eight, day-within}
 use Rattle.rules.specs.Effects.{payment}
-use Rattle.rules.specs.Reasons.{manyOpened, owed, tendered}
+use Rattle.rules.specs.Reasons.{memoryOver, manyOpened, owed, tendered}
 use Rattle.rules.specs.Rules.{ruleOf}
 use Rattle.rules.specs.Views.{viewOf}
 use Rattle.rules.specs.declared.views.View.{View}
 use Rattle.rules.specs.declared.views.View.the-variants.{Opens, Sells, Pays, Closes, Cancels, OpensText, ClosesText, Clears, Puts, Takes, Asks}
-use Rattle.rules.proofs.Reasoning.{none-of}
-use Rattle.deeds.specs.Deeds.{refusedWith, deedOf, carriedOut}
+use Rattle.rules.proofs.Reasoning.{none-of, few-receipts}
+use Rattle.deeds.specs.Deeds.{carriedOut}
 use Rattle.deeds.specs.declared.Deed.{Deed}
 use Rattle.history.specs.Reached.{Reached, Receipted}
 use Rattle.history.proofs.Lists.{sum-eight-set}
@@ -155,6 +158,18 @@ reached-stays b c h = go (taken b c)
     go (refused m l) = h
     go {v} (goes f) = reaching b h v f
 
--- such books are never refused for not being sound
-pub every-command-judged : (b : Books) (c : Command) → Reached b → carriedOut b c ≡ deedOf b (viewOf c)
-every-command-judged b c h = ap (λ z. cond z (deedOf b (viewOf c)) (refusedWith 4 b)) (h .fits)
+-- in such books 48, 56 and 69 have no reason for 4 (PROTOCOL 8.7)
+pub opening-never-over : (b : Books) (p : Password) → Reached b → ruleOf b (Opens p) .three ≡ false → ruleOf b (Opens p) .four ≡ false
+opening-never-over b p h e = lt-leb 9999 (b .counters .fiscal) (omega (arith, few-receipts b p e, parts b (h .fits) .fiscal))
+
+pub closing-never-over : (b : Books) → Reached b → ruleOf b Closes .four ≡ false
+closing-never-over b h = ap not (parts b (h .fits) .groups)
+
+pub clearing-never-over : (b : Books) → Reached b → ruleOf b Clears .four ≡ false
+clearing-never-over b h =
+    let k = parts b (h .fits) in
+    let m = memory-in b (k .memory) in
+    let most = within-eight (at (b .day)) (day-within b (k .groups)) in
+    let little : b .memory .total + sum (eight (at (b .day))) ≤ 99999999999999999 =
+    omega (arith, m .0, m .1, capacity-small b, most 0 (omega arith), most 1 (omega arith), most 2 (omega arith), most 3 (omega arith), most 4 (omega arith), most 5 (omega arith), most 6 (omega arith), most 7 (omega arith)) in
+    ap (λ z. not z || memoryOver b) (k .groups) ∙ le-ltb 99999999999999999 (b .memory .total + sum (eight (at (b .day)))) little

@@ -43,7 +43,7 @@ module _ (b : Books) (k : Kept b) where
 
   -- without the receipt, and with one on which nothing stands
   day-in : (g : ℕ) → g < 8 → at (b .day) g ≤ 999999999999
-  day-in = within-eight (at (b .day)) (day-within b k)
+  day-in = within-eight (at (b .day)) (day-within b (k .groups))
 
   empty-in : (g : ℕ) → g < 8 → at (b .day) g + at (emptyReceipt .groups) g ≤ 999999999999
   empty-in g lt = omega (arith, day-in g lt, zeros g)

@@ -15,7 +15,6 @@ use Rattle.books.specs.Books.{fiscalOpen, anyOpen}
 use Rattle.books.specs.Groups.{at}
 use Rattle.books.specs.Rates.{rateIn, isEnabled, capacityOf}
 use Rattle.books.specs.Registers.{registerOf}
-use Rattle.books.specs.Sound.{sound}
 use Rattle.books.specs.declared.Books.{Books}
 use Rattle.rules.specs.Reasons.{full, noneOpen, owed, tendered}
 use Rattle.rules.specs.Rules.{ruleOf}
@@ -47,11 +46,7 @@ judging b v = go (ruleOf b v .one) (ruleOf b v .three) (ruleOf b v .four) refl r
     go false false false e f g = goes (record { one = e; three = f; four = g })
 
 pub taken : (b : Books) (c : Command) → Step b (viewOf c) (carriedOut b c)
-taken b c = go (sound b)
-  where
-    go : (fit : Bool) → Step b (viewOf c) (cond fit (deedOf b (viewOf c)) (refusedWith 4 b))
-    go true = judging b (viewOf c)
-    go false = refused 3 (omega arith)
+taken b c = judging b (viewOf c)
 
 -- a line that is done
 pub record Line (b : Books) (s : Sale) : Type 0 where

@@ -1,7 +1,7 @@
 -- PROTOCOL chapter 5, one rule a view, in the order of the rule book: *Refused* (the reasons for 1, 3 and 4), *Done* and *Answers*.
 use Prim.Native.Nat.{_+_, _-_, min}
 use mathlib.Core.Bool.{Bool, false, not, _&&_, _||_}
-use lib.Dec.{ltb}
+use lib.Dec.{leb, ltb}
 use Rattle.kinds.specs.declared.Command.{Command}
 use Rattle.receipt.specs.Lines.{fits}
 use Rattle.receipt.specs.Receipts.{emptyReceipt, notPermitted, overflows, withLine, isCash}
@@ -17,7 +17,7 @@ use Rattle.books.specs.declared.Shown.the-variants as shown
 use Rattle.rules.specs.declared.views.View.{View}
 use Rattle.rules.specs.declared.views.View.the-variants.{Opens, Sells, Pays, Closes, Cancels, OpensText, ClosesText, Clears, Puts, Takes, Asks}
 use Rattle.rules.specs.Views.{viewOf}
-use Rattle.rules.specs.Reasons.{isPrice, tenderHolds, isRight, full, manyOpened, noneOpen, unmet, owed, tendered}
+use Rattle.rules.specs.Reasons.{isPrice, tenderHolds, isRight, full, dayOver, memoryOver, manyOpened, noneOpen, unmet, owed, tendered}
 use Rattle.rules.specs.Effects.{newReceipt, payment, paidInto, takenIn, newText, cleared}
 
 -- PROTOCOL 2.2: 1 goes before 3, and 3 before 4. DECISIONS 57: 1 is for numbers that no data gives
@@ -30,12 +30,12 @@ pub record Rule : Type 0 where
   pub shows : Shown
 
 abbrev pub ruleOf : Books → View → Rule
--- PROTOCOL 5.3: 48. Another password, a receipt of either kind open, All at 9999, the memory full
+-- PROTOCOL 5.3: 48. For 3: another password, a receipt of either kind open, All at 9999, the memory full. For 4 (8.7): Fiscal would pass its digits
 ruleOf b (Opens p) =
     record {
       one = false;
       three = not (isRight p) || anyOpen (b .opened) || manyOpened b || full b;
-      four = false;
+      four = leb 9999 (b .counters .fiscal);
       after = newReceipt b;
       shows = shown.AllAndFiscal;
     }
@@ -59,9 +59,15 @@ ruleOf b (Pays p) =
       after = paidInto b p;
       shows = shown.Tendered (payment b p .full) (payment b p .left);
     }
--- PROTOCOL 5.7: 56. None open, or not paid in full
+-- PROTOCOL 5.7: 56. For 3: none open, or not paid in full. For 4 (8.7): a day sum would pass 12 digits
 ruleOf b Closes =
-    record { one = false; three = noneOpen b || not (b .receipt .settled); four = false; after = takenIn b; shows = shown.AllAndFiscal }
+    record {
+      one = false;
+      three = noneOpen b || not (b .receipt .settled);
+      four = dayOver b;
+      after = takenIn b;
+      shows = shown.AllAndFiscal;
+    }
 -- PROTOCOL 5.8: 60. None open, or a 53 done. None is open then, and what stood on it is gone; the counters stay
 ruleOf b Cancels =
     record {
@@ -83,9 +89,16 @@ ruleOf b ClosesText =
       after = withReceipt b opened.Nothing (b .receipt);
       shows = shown.All;
     }
--- PROTOCOL 5.13: 69 with `0`. A receipt of either kind open, or the memory full. It shows the closings made, FM and the day sums
+-- PROTOCOL 5.13: 69 with `0`. For 3: a receipt of either kind open, or the memory full. For 4 (8.7): a day sum has more than 12 digits, or FM would pass 17.
+-- It shows the closings made, FM and the day sums
 ruleOf b Clears =
-    record { one = false; three = anyOpen (b .opened) || full b; four = false; after = cleared b; shows = shown.Closure }
+    record {
+      one = false;
+      three = anyOpen (b .opened) || full b;
+      four = dayOver b || memoryOver b;
+      after = cleared b;
+      shows = shown.Closure;
+    }
 -- PROTOCOL 5.14: 70 puts in. A receipt of either kind open; for 4, cash or In would pass 12 digits. Cash and In go up
 ruleOf b (Puts n) =
     record {

@@ -15,7 +15,7 @@ ghost use Rattle.books.specs.Sound.{inTwelve};
 ghost use Rattle.rules.specs.Reasons.{isPrice, tenderHolds, isRight, full, manyOpened, unmet};
 
 // All at its end: no receipt of either kind is opened any more until the day is closed.
-const MOST_RECEIPTS: u64 = 9999;
+pub const MOST_RECEIPTS: u64 = 9999;
 
 // One reason or the other.
 pub fn either(a: bool, b: bool) -> bool
