@@ -16,13 +16,12 @@ use Rattle.wire.specs.Frame.{answerOf, carriable, sendable}
 use Rattle.wire.proofs.Building.{sendable-answer}
 use Rattle.wire.specs.declared.Kind.the-variants.{Answer}
 use Rattle.wire.specs.declared.Sort.the-variants.{Mark, Data, Status}
-use Rattle.books.specs.Rates.{capacity}
 use Rattle.books.specs.declared.Books.{Books}
 use Rattle.books.specs.declared.Shown.{Shown}
 use Rattle.books.specs.declared.Shown.the-variants as shown
 use Rattle.answers.specs.Contents.{commaEach, commas, taxesFrom, ratesText, letter, contentOf}
 use Rattle.books.specs.Books.{fiscalOpen, textOpen}
-use Rattle.answers.specs.Status.{bit, tellsSyntax, tellsUnknown, tellsOverflow, tellsRefused, anyVerdict, verdict0, verdict1, receipts, memories, statusOf}
+use Rattle.answers.specs.Status.{bit, tellsSyntax, tellsUnknown, tellsOverflow, tellsRefused, anyVerdict, verdict0, verdict1, receipts, fewFree, memories, statusOf}
 
 -- a field shows its number exactly where the number fits
 pub field-shows : (width n : ℕ) → (n < 10 ^ width → number 0 (digits width n) ≡ n) × (number 0 (digits width n) ≡ n → n < 10 ^ width)
@@ -49,9 +48,9 @@ sums-size : (width : ℕ) (sums : List ℕ) → width ≤ 12 → size (map (digi
 sums-size width [] h = omega arith
 sums-size width (n ∷ sums) h = omega (arith, length-digits width n, sums-size width sums h)
 
-taxes-length : (g : ℕ) (sums : List ℕ) → length (taxesFrom g sums) ≡ length sums
-taxes-length g [] = refl
-taxes-length g (n ∷ sums) = ap suc (taxes-length (g + 1) sums)
+taxes-length : (b : Books) (g : ℕ) (sums : List ℕ) → length (taxesFrom b g sums) ≡ length sums
+taxes-length b g [] = refl
+taxes-length b g (n ∷ sums) = ap suc (taxes-length b (g + 1) sums)
 
 -- a field's bytes, and those of all fields
 module _ (t : ℕ → Bool) where
@@ -105,13 +104,12 @@ bit-most value false = omega arith
 
 status-high : (n : ℕ) (b : Books) → High (statusOf n b)
 status-high n b =
-    let k = b .memory .closings in
     let o = b .opened in
     byte (verdict0 n) (omega arith) (omega (arith, bit-most 0x01 (tellsSyntax n), bit-most 0x02 (tellsUnknown n), bit-most 0x20 (anyVerdict n)))
     (byte (verdict1 n) (omega arith) (omega (arith, bit-most 0x01 (tellsOverflow n), bit-most 0x02 (tellsRefused n)))
     (byte (receipts o) (omega arith) (omega (arith, bit-most 0x08 (fiscalOpen o), bit-most 0x20 (textOpen o)))
     (byte 0x80 (omega arith) (omega arith)
-    (byte (memories k) (omega arith) (omega (arith, bit-most 0x08 (leb capacity (k + 50)), bit-most 0x10 (leb capacity k), bit-most 0x20 (leb capacity k)))
+    (byte (memories b) (omega arith) (omega (arith, bit-most 0x08 (fewFree b 50), bit-most 0x10 (fewFree b 0), bit-most 0x20 (fewFree b 0)))
     (byte 0x9A (omega arith) (omega arith) end)))))
 
 pub status-six : (n : ℕ) (b : Books) → length (statusOf n b) ≡ 6
@@ -121,10 +119,10 @@ pub status-stands : (n : ℕ) (b : Books) → every (mayStand Status) (statusOf 
 status-stands n b = high-pass (mayStand Status) (λ x low high. rw (le-leb 0x80 x low, le-leb x 0xFF high)) (status-high n b)
 
 -- the text of 97, byte for byte
-pub rates-shown : ratesText
+pub rates-shown : (b : Books) → ratesText b
     ≡ 0x30 ∷ 0x30 ∷ 0x2E ∷ 0x30 ∷ 0x30 ∷ 0x2C ∷ 0x32 ∷ 0x30 ∷ 0x2E ∷ 0x30 ∷ 0x30 ∷ 0x2C ∷ 0x32 ∷ 0x30 ∷ 0x2E ∷ 0x30 ∷ 0x30 ∷ 0x2C ∷ 0x30 ∷ 0x39 ∷ 0x2E ∷ 0x30 ∷ 0x30 ∷ 0x2C ∷ 0x2C ∷ 0x2C ∷ 0x2C ∷ []
 unfolding digits
-rates-shown = refl
+rates-shown b = refl
 
 -- every answer's data, for books whose lists are of eight
 module _ (day : List ℕ) (b : Books) where
@@ -139,13 +137,13 @@ module _ (day : List ℕ) (b : Books) where
   shown-short shown.DaySums d e g =
       omega (arith, commas-size (map (digits 12) (b .day)), sums-size 12 (b .day) (omega arith))
   shown-short shown.Taxes d e g =
-      omega (arith, commas-size (map (digits 12) (taxesFrom 0 (b .day))), sums-size 12 (taxesFrom 0 (b .day)) (omega arith), taxes-length 0 (b .day))
+      omega (arith, commas-size (map (digits 12) (taxesFrom b 0 (b .day))), sums-size 12 (taxesFrom b 0 (b .day)) (omega arith), taxes-length b 0 (b .day))
   shown-short shown.Closure d e g =
       omega (arith, commas-size (digits 4 (b .memory .closings) ∷ digits 17 (b .memory .total) ∷ map (digits 12) day), length-digits 4 (b .memory .closings), length-digits 17 (b .memory .total), sums-size 12 day (omega arith))
   shown-short shown.InDrawer d e g =
       omega (arith, commas-size ((0x50 ∷ []) ∷ map (digits 12) (b .drawer .cash ∷ b .drawer .put ∷ b .drawer .taken ∷ [])), sums-size 12 (b .drawer .cash ∷ b .drawer .put ∷ b .drawer .taken ∷ []) (omega arith))
   shown-short shown.Status d e g = omega arith
-  shown-short shown.Rates d e g = omega (arith, ap length rates-shown)
+  shown-short shown.Rates d e g = omega (arith, ap length (rates-shown b))
 
   letter-plain : (full : Bool) → mayStand Data (letter full) ≡ true
   letter-plain true = refl
@@ -158,7 +156,7 @@ module _ (day : List ℕ) (b : Books) where
   shown-stands shown.Subtotal = commas-plain (sums-plain 10 (b .receipt .total ∷ b .receipt .groups))
   shown-stands (shown.Tendered full left) = every-cons (mayStand Data) (letter full) (digits 10 left) (letter-plain full) (digits-plain 10 left)
   shown-stands shown.DaySums = commas-plain (sums-plain 12 (b .day))
-  shown-stands shown.Taxes = commas-plain (sums-plain 12 (taxesFrom 0 (b .day)))
+  shown-stands shown.Taxes = commas-plain (sums-plain 12 (taxesFrom b 0 (b .day)))
   shown-stands shown.Closure =
       commas-plain
       (one (digits 4 (b .memory .closings)) (digits-plain 4 (b .memory .closings))
@@ -166,7 +164,7 @@ module _ (day : List ℕ) (b : Books) where
       (sums-plain 12 day)))
   shown-stands shown.InDrawer = commas-plain (one (0x50 ∷ []) refl (sums-plain 12 (b .drawer .cash ∷ b .drawer .put ∷ b .drawer .taken ∷ [])))
   shown-stands shown.Status = high-pass (mayStand Data) (λ x low high. plain x (omega arith) high) (status-high 0 b)
-  shown-stands shown.Rates = rw rates-shown
+  shown-stands shown.Rates = rw (rates-shown b)
 
 -- so every answer can be sent, whatever its reply number
 carried : (seq code : ℕ) (content : List ℕ) → mayStand Mark seq ≡ true → mayStand Mark code ≡ true → length content ≤ 200

@@ -3,7 +3,7 @@ use Prim.Native.Nat.{ℕ, _+_}
 use mathlib.Core.Bool.{Bool, cond, _||_}
 use mathlib.Core.List.{List, [], _∷_}
 use lib.Dec.{leb, eqb}
-use Rattle.books.specs.Rates.{capacity}
+use Rattle.books.specs.Rates.{capacityOf}
 use Rattle.books.specs.declared.Books.{Books}
 use Rattle.books.specs.declared.Opened.{Opened}
 use Rattle.books.specs.Books.{fiscalOpen, textOpen}
@@ -39,12 +39,14 @@ verdict1 number = 0x80 + bit 0x01 (tellsOverflow number) + bit 0x02 (tellsRefuse
 abbrev pub receipts : Opened → ℕ
 receipts o = 0x80 + bit 0x08 (fiscalOpen o) + bit 0x20 (textOpen o)
 
--- PROTOCOL 3.3: byte 4, bit 4.3 with at most 50 closings free, 4.4 and 4.5 with none; bits 4.1 and 4.2 always. DECISIONS 19: 4.3 stays then
-abbrev pub memories : ℕ → ℕ
-memories closings =
-    0x86 + bit 0x08 (leb capacity (closings + 50)) + bit 0x10 (leb capacity closings) + bit 0x20 (leb capacity closings)
+-- PROTOCOL 3.3, 8.6: at most so many closings are free in the memory. Byte 4, bit 4.3 with at most 50 closings free, 4.4 and 4.5 with none; bits 4.1 and 4.2 always. DECISIONS 19: 4.3 stays then
+abbrev pub fewFree : Books → ℕ → Bool
+fewFree b free = leb (capacityOf b) (b .memory .closings + free)
+
+abbrev pub memories : Books → ℕ
+memories b = 0x86 + bit 0x08 (fewFree b 50) + bit 0x10 (fewFree b 0) + bit 0x20 (fewFree b 0)
 
 -- PROTOCOL 3.1: the six bytes; bits 5.1, 5.3 and 5.4 are always 1
 abbrev pub statusOf : ℕ → Books → List ℕ
 statusOf number b =
-    verdict0 number ∷ verdict1 number ∷ receipts (b .opened) ∷ 0x80 ∷ memories (b .memory .closings) ∷ 0x9A ∷ []
+    verdict0 number ∷ verdict1 number ∷ receipts (b .opened) ∷ 0x80 ∷ memories b ∷ 0x9A ∷ []

@@ -10,7 +10,6 @@ use Rattle.books.specs.declared.Counters.{Counters}
 use Rattle.books.specs.declared.Drawer.{Drawer}
 use Rattle.books.specs.declared.Opened.{Opened}
 use Rattle.books.specs.declared.Opened.the-variants.{Nothing, Fiscal, Text}
-use Rattle.books.specs.declared.Registers.{Registers}
 
 -- PROTOCOL 8.4: all sums and counters zero, no receipt open
 abbrev pub freshBooks : Books
@@ -19,7 +18,7 @@ freshBooks =
       opened = Nothing;
       receipt = emptyReceipt;
       day = replicate 8 0;
-      registers = record { n = 0; c = 0; d = 0; b = 0 };
+      registers = replicate 4 0;
       drawer = record { cash = 0; put = 0; taken = 0 };
       counters = record { all = 0; fiscal = 0 };
       memory = record { closings = 0; total = 0 };
@@ -51,7 +50,7 @@ module _ (b : Books) where
   withDay sums =
       record { opened = b .opened; receipt = b .receipt; day = sums; registers = b .registers; drawer = b .drawer; counters = b .counters; memory = b .memory }
 
-  abbrev pub withRegisters : Registers → Books
+  abbrev pub withRegisters : List ℕ → Books
   withRegisters r =
       record { opened = b .opened; receipt = b .receipt; day = b .day; registers = r; drawer = b .drawer; counters = b .counters; memory = b .memory }
 

@@ -1,4 +1,5 @@
-pub mod Rates
 pub mod Groups
 pub mod Books
+pub mod Rates
+pub mod Registers
 pub mod Sound

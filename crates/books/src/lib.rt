@@ -1,6 +1,7 @@
 // The books: what the device remembers of receipts, day and drawer (PROTOCOL 8.3).
 pub mod parts;
 pub mod rates;
+pub mod registers;
 pub mod sound;
 
 use receipt::Receipt;
@@ -20,14 +21,6 @@ pub struct Counters {
     pub fiscal: u64,
 }
 
-// The four pay registers of the day.
-pub struct Registers {
-    pub n: u64,
-    pub c: u64,
-    pub d: u64,
-    pub b: u64,
-}
-
 // Cash, and the service sums of the day.
 pub struct Drawer {
     pub cash: u64,
@@ -45,7 +38,8 @@ pub struct Books {
     pub opened: Opened,
     pub receipt: Receipt,
     pub day: [u64; 8],
-    pub registers: Registers,
+    // The pay registers of the day, in the order N, C, D, B.
+    pub registers: [u64; 4],
     pub drawer: Drawer,
     pub counters: Counters,
     pub memory: Memory,
@@ -66,6 +60,7 @@ pub enum Shown {
     Rates,
 }
 
+// The books of a device that has just been made.
 pub fn fresh() -> Books
     ensures { λ r. ⌜ r ≡ freshBooks ⌝ }
 {
@@ -74,12 +69,7 @@ pub fn fresh() -> Books
         opened: Opened::Nothing,
         receipt,
         day: [0u64; 8],
-        registers: Registers {
-            n: 0,
-            c: 0,
-            d: 0,
-            b: 0,
-        },
+        registers: [0u64; 4],
         drawer: Drawer {
             cash: 0,
             put: 0,

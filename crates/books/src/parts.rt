@@ -3,11 +3,11 @@ use crate::Books;
 use crate::Counters;
 use crate::Drawer;
 use crate::Opened;
-use crate::Registers;
 use receipt::Receipt;
 ghost use mathlib.Core.Path.{_≡_};
 ghost use Rattle.books.specs.Books.{fiscalOpen, textOpen, anyOpen, withReceipt, withDay, withRegisters, withDrawer, withCounters};
 
+// Whether a fiscal receipt is open.
 pub fn fiscal_open(o: Opened) -> bool
     ensures { λ r. ⌜ r ≡ fiscalOpen o ⌝ }
 {
@@ -18,6 +18,7 @@ pub fn fiscal_open(o: Opened) -> bool
     }
 }
 
+// Whether a non-fiscal receipt is open.
 pub fn text_open(o: Opened) -> bool
     ensures { λ r. ⌜ r ≡ textOpen o ⌝ }
 {
@@ -28,6 +29,7 @@ pub fn text_open(o: Opened) -> bool
     }
 }
 
+// Whether a receipt of either kind is open.
 pub fn any_open(o: Opened) -> bool
     ensures { λ r. ⌜ r ≡ anyOpen o ⌝ }
 {
@@ -38,6 +40,7 @@ pub fn any_open(o: Opened) -> bool
     }
 }
 
+// The books with this open, and this the fiscal receipt.
 pub fn with_receipt(books: Books, opened: Opened, receipt: Receipt) -> Books
     ensures { λ r. ⌜ r ≡ withReceipt books opened receipt ⌝ }
 {
@@ -57,6 +60,7 @@ pub fn with_receipt(books: Books, opened: Opened, receipt: Receipt) -> Books
     }
 }
 
+// The books with these day sums.
 pub fn with_day(books: Books, day: [u64; 8]) -> Books
     ensures { λ r. ⌜ r ≡ withDay books day ⌝ }
 {
@@ -65,7 +69,8 @@ pub fn with_day(books: Books, day: [u64; 8]) -> Books
     next
 }
 
-pub fn with_registers(books: Books, registers: Registers) -> Books
+// The books with these pay registers.
+pub fn with_registers(books: Books, registers: [u64; 4]) -> Books
     ensures { λ r. ⌜ r ≡ withRegisters books registers ⌝ }
 {
     let mut next = books;
@@ -73,6 +78,7 @@ pub fn with_registers(books: Books, registers: Registers) -> Books
     next
 }
 
+// The books with this drawer.
 pub fn with_drawer(books: Books, drawer: Drawer) -> Books
     ensures { λ r. ⌜ r ≡ withDrawer books drawer ⌝ }
 {
@@ -81,6 +87,7 @@ pub fn with_drawer(books: Books, drawer: Drawer) -> Books
     next
 }
 
+// The books with these counters.
 pub fn with_counters(books: Books, counters: Counters) -> Books
     ensures { λ r. ⌜ r ≡ withCounters books counters ⌝ }
 {

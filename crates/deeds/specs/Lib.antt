@@ -1,4 +1,1 @@
-pub mod Holds
-pub mod Reasons
-pub mod Effects
 pub mod Deeds

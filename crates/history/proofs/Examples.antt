@@ -13,7 +13,7 @@ use Rattle.books.specs.Books.{freshBooks}
 use Rattle.books.specs.declared.Books.{Books}
 use Rattle.deeds.specs.Deeds.{carriedOut}
 use Rattle.history.specs.Entries.{Entry, entryOf}
-use Rattle.history.specs.History.{due, linesSold, paymentTried, paidInFull, putIn, takenOut, daySum, allOpened, closings, memorySum}
+use Rattle.history.specs.History.{dueIn, linesSold, paymentTried, paidInFull, putIn, takenOut, figuresOf}
 
 abbrev openIt : Command
 openIt = Open 1 (record { digits = 4; value = 0 }) 1
@@ -42,7 +42,7 @@ on es b (c ∷ cs) = on (entryOf b c (carriedOut b c) ∷ es) (carriedOut b c .b
 abbrev told : List Command → List Entry
 told cs = on [] freshBooks cs
 
-pub still-due : due (told sold) ≡ 1267
+pub still-due : dueIn (figuresOf (told sold) .receipt) ≡ 1267
 still-due = refl
 
 pub two-lines : linesSold (told sold) ≡ 2
@@ -67,7 +67,7 @@ pub change-left-out : putIn (told paid) ≡ 1267
 unfolding digits number
 change-left-out = refl
 
-pub day-of-B : daySum 1 (told paid) ≡ 1267
+pub day-of-B : figuresOf (told paid) .day 1 ≡ 1267
 day-of-B = refl
 
 pub put-in : putIn (told day) ≡ 1767
@@ -77,11 +77,11 @@ put-in = refl
 pub taken-out : takenOut (told day) ≡ 300
 taken-out = refl
 
-pub cleared : allOpened (told day) ≡ 0
+pub cleared : figuresOf (told day) .counters .all ≡ 0
 cleared = refl
 
-pub one-closing : closings (told day) ≡ 1
+pub one-closing : figuresOf (told day) .memory .closings ≡ 1
 one-closing = refl
 
-pub memory : memorySum (told day) ≡ 1267
+pub memory : figuresOf (told day) .memory .total ≡ 1267
 memory = refl

@@ -1,130 +1,146 @@
--- A payment keeps the books and the history in agreement, whatever its mode.
+-- A payment keeps the books and the figures in agreement, whatever its mode.
 use mathlib.Core.Path.{_≡_, refl, sym, ap, _∙_}
 use mathlib.Core.Bool.{Bool, true, false, cond, _||_, or-false}
 use mathlib.Core.List.{List, _∷_}
 use Prim.Native.Nat.{ℕ, _+_, _-_, _^_, _≤_, _<_, min}
 use native.Mathlib.Omega.{arith}
-use lib.Dec.{leb}
-use borrow.Author.Tests.{leb-true, leb-false}
+use lib.Dec.{leb, ltb, eqb}
+use lib.ListN.{length, set}
+use lib.Seq.{getD-set-same, getD-set-other}
+use borrow.Author.Tests.{leb-true, leb-false, ltb-true, ltb-false, eqb-true, eqb-false, eq-eqb, ne-eqb}
 use Rattle.text.specs.Digits.{digits}
-use Rattle.kinds.specs.declared.Command.the-variants.{Pay}
 use Rattle.kinds.specs.declared.Mode.{Mode}
 use Rattle.kinds.specs.declared.Mode.the-variants.{Cash, N, C, D, B}
 use Rattle.kinds.specs.declared.Payment.{Payment}
-use Rattle.kinds.specs.declared.Tender.{Tender}
-use Rattle.receipt.specs.Receipts.{givenOf, paidOf}
-use Rattle.receipt.specs.declared.Receipt.{Receipt}
-use Rattle.books.specs.Books.{withReceipt}
+use Rattle.receipt.specs.Receipts.{givenOf}
+use Rattle.books.specs.Books.{withReceipt, withRegisters, withDrawer}
+use Rattle.books.specs.Groups.{at}
+use Rattle.books.specs.Registers.{place}
 use Rattle.books.specs.declared.Books.{Books}
-use Rattle.books.specs.declared.Registers.{Registers}
-use Rattle.deeds.specs.Deeds.{raisedBy}
 use Rattle.answers.specs.Contents.{letter}
 use Rattle.answers.proofs.Shown.{field-shows}
-use Rattle.history.specs.Agrees.{ReceiptAgrees, RegistersAgree, Agrees}
-use Rattle.history.specs.Entries.{Entry}
-use Rattle.history.specs.History.{due, saysR, changeOf, paidInFull, putIn, takenOut}
-use Rattle.history.proofs.Agreeing.{doneWith}
-use Rattle.history.proofs.Keeping.{kept, unchanged, kept-cash, kept-covered, kept-total, less}
-use Rattle.history.proofs.Steps.{restOf, handed, taken}
+use Rattle.rules.specs.Effects.{payment, paidInto}
+use Rattle.rules.specs.Reasons.{owed, tendered}
+use Rattle.rules.specs.declared.views.View.the-variants.{Pays}
+use Rattle.history.specs.Agrees.{ReceiptAgrees, DrawerAgrees, Says}
+use Rattle.history.specs.History.{Figures, by, brought, saysR, changeOf, withPayment, drawerAfter, after}
 
 -- the answer's data: `D` and the rest, or `R` and the change
-abbrev tendered : Bool → ℕ → List ℕ
-tendered full left = letter full ∷ digits 10 left
+abbrev seenAs : Bool → ℕ → List ℕ
+seenAs full left = letter full ∷ digits 10 left
 
-says-full : (full : Bool) (left : ℕ) → full ≡ saysR (tendered full left)
+says-full : (full : Bool) (left : ℕ) → full ≡ saysR (seenAs full left)
 says-full true left = refl
 says-full false left = refl
 
 -- what was given less the change, read back from its ten digits, is what was raised
 net : (full : Bool) (given rest : ℕ) → leb rest given ≡ full → cond full (given - rest) (rest - given) < 10 ^ 10
-    → given - changeOf (tendered full (cond full (given - rest) (rest - given))) ≡ min given rest
+    → given - changeOf (seenAs full (cond full (given - rest) (rest - given))) ≡ min given rest
 net true given rest e fit = omega (arith, leb-true rest given e, field-shows 10 (given - rest) .0 fit)
 net false given rest e fit = omega (arith, leb-false rest given e)
 
-module _ (es : List Entry) (b : Books) (h : Agrees es b) (unpaid : b .receipt .settled ≡ false) (t : Tender) (fit : paidOf (b .receipt) (restOf b) (givenOf (restOf b) t) .left < 10 ^ 10) where
-  abbrev given : ℕ
-  given = givenOf (restOf b) t
+less : {a b c d : ℕ} → a ≡ b → c ≡ d → a - c ≡ b - d
+less e f = rw (e, f)
 
+place-most : (m : Mode) → place m ≤ 4
+place-most Cash = omega arith
+place-most N = omega arith
+place-most C = omega arith
+place-most D = omega arith
+place-most B = omega arith
+
+module _ (f : Figures) (b : Books) (h : Says f b) (four : length (b .registers) ≡ 4) (p : Payment) (unpaid : b .receipt .settled ≡ false) (fit : payment b p .left < 10 ^ 10) where
   abbrev raised : ℕ
-  raised = min given (restOf b)
-
-  abbrev paidReceipt : Receipt
-  paidReceipt = paidOf (b .receipt) (restOf b) given .receipt
+  raised = min (tendered b p) (owed b)
 
   abbrev seen : List ℕ
-  seen = tendered (leb (restOf b) given) (paidOf (b .receipt) (restOf b) given .left)
+  seen = seenAs (payment b p .full) (payment b p .left)
 
-  abbrev entry : Mode → Entry
-  entry m = doneWith (Pay (record { mode = m; tender = t })) seen
-
-  abbrev change : ℕ
-  change = changeOf seen
+  abbrev netIn : ℕ
+  netIn = brought (f .receipt) p seen
 
   -- the history tells the same amount from what was due
-  told : givenOf (due es) t - change ≡ raised
-  told = ap (λ z. givenOf z t - change) (sym (h .receipt .rest)) ∙ net (leb (restOf b) given) given (restOf b) refl fit
+  told : netIn ≡ raised
+  told =
+      ap (λ z. givenOf z (p .tender) - changeOf seen) (sym (h .receipt .rest)) ∙ net (leb (owed b) (tendered b p)) (tendered b p) (owed b) refl fit
 
-  -- no `R` before, so that this one tells alone
-  full : leb (restOf b) given ≡ saysR seen || paidInFull es
-  full = says-full (leb (restOf b) given) (paidOf (b .receipt) (restOf b) given .left) ∙ sym (or-false (saysR seen)) ∙ ap (λ z. saysR seen || z) (sym unpaid ∙ h .receipt .settled)
-
-  more : {x y : ℕ} → x ≡ y → x + raised ≡ y + (givenOf (due es) t - change)
-  more e = omega (arith, e, told)
-
-  paid-receipt : (m : Mode) → ReceiptAgrees (entry m ∷ es) paidReceipt
-  paid-receipt m =
+  paid-receipt : ReceiptAgrees (withPayment (f .receipt) p seen) (payment b p .receipt)
+  paid-receipt =
       let r = h .receipt in
+      let paid : b .receipt .paid + raised ≡ f .receipt .paid + netIn = omega (arith, r .paid, told) in
       record {
-        groups = λ g lt. unchanged (r .groups g lt);
-        total = kept-total es (r .total);
-        lines = kept (r .lines);
-        paid = more (r .paid);
-        rest = less (kept-total es (r .total)) (more (r .paid));
+        groups = r .groups;
+        total = r .total;
+        lines = r .lines;
+        paid = paid;
+        rest = less (r .total) paid;
         tried = refl;
-        settled = full;
+        settled = says-full (payment b p .full) (payment b p .left) ∙ sym (or-false (saysR seen)) ∙ ap (λ z. saysR seen || z) (sym unpaid ∙ r .settled);
       }
 
-  -- whatever cash and the registers have become
-  paid-into : (m : Mode) (cash : ℕ) (registers : Registers) → cash ≡ putIn (entry m ∷ es) - takenOut (entry m ∷ es) → takenOut (entry m ∷ es) ≤ putIn (entry m ∷ es)
-      → RegistersAgree (entry m ∷ es) registers
-      → Agrees (entry m ∷ es)
-      (record { opened = b .opened; receipt = paidReceipt; day = b .day; registers = registers; drawer = record { cash = cash; put = b .drawer .put; taken = b .drawer .taken }; counters = b .counters; memory = b .memory })
-  paid-into m cash registers e l r =
+  abbrev here : ℕ
+  here = place (p .mode)
+
+  -- a register, this one or another
+  register-told : here < 4 → (m : Mode) → place m < 4 → at (set (b .registers) here (at (b .registers) here + raised)) (place m) ≡ f .registers m + cond (by m (p .mode)) netIn 0
+  register-told has m lt = go (eqb (place m) here) refl
+    where
+      go : (same : Bool) → eqb (place m) here ≡ same
+          → at (set (b .registers) here (at (b .registers) here + raised)) (place m) ≡ f .registers m + cond same netIn 0
+      go true e =
+          let same = eqb-true (place m) here e in
+          ap (at (set (b .registers) here (at (b .registers) here + raised))) same
+          ∙ getD-set-same (b .registers) here (at (b .registers) here + raised) 0 (omega arith)
+          ∙ omega (arith, told, h .registers m lt, ap (at (b .registers)) same)
+      go false e =
+          getD-set-other (b .registers) here (place m) (at (b .registers) here + raised) 0 (eqb-false (place m) here e)
+          ∙ omega (arith, h .registers m lt)
+
+  other-register : 4 ≤ here → (m : Mode) → place m < 4 → at (b .registers) (place m) ≡ f .registers m + cond (by m (p .mode)) netIn 0
+  other-register none m lt =
+      let not-here : eqb (place m) here ≡ false = ne-eqb (place m) here (λ e. omega (arith, e)) in
+      omega (arith, h .registers m lt, ap (λ z. cond z netIn 0) not-here)
+
+  -- cash, raised by this payment or not
+  cash-told : (inCash : Bool) → by Cash (p .mode) ≡ inCash → (cash : ℕ) → cash ≡ b .drawer .cash + cond inCash raised 0
+      → DrawerAgrees (drawerAfter (Pays p) seen (f .receipt) (f .drawer)) (record { cash = cash; put = b .drawer .put; taken = b .drawer .taken })
+  cash-told inCash e cash c =
+      let more : cond (by Cash (p .mode)) netIn 0 ≡ cond inCash raised 0 = ap (λ z. cond z netIn 0) e ∙ ap (λ z. cond inCash z 0) told in
       record {
-        cash = e;
-        covered = l;
-        opened = h .opened;
-        receipt = paid-receipt m;
-        day = λ g lt. kept (h .day g lt);
-        registers = r;
-        put = kept (h .put);
-        taken = kept (h .taken);
-        all = kept (h .all);
-        fiscal = kept (h .fiscal);
-        closings = kept (h .closings);
-        memory = kept (h .memory);
+        cash = omega (arith, c, more, h .drawer .cash, h .drawer .covered);
+        covered = omega (arith, h .drawer .covered);
+        put = h .drawer .put;
+        taken = h .drawer .taken;
       }
 
   -- "At once P raises cash, another mode its own register"
-  paid : (m : Mode) → Agrees (entry m ∷ es) (raisedBy (withReceipt b (b .opened) paidReceipt) m raised)
-  paid Cash =
-      let r = h .registers in
-      paid-into Cash (b .drawer .cash + raised) (b .registers) (omega (arith, h .cash, h .covered, told)) (omega (arith, h .covered))
-      (record { n = kept (r .n); c = kept (r .c); d = kept (r .d); b = kept (r .b) })
-  paid N =
-      let r = h .registers in
-      paid-into N (b .drawer .cash) _ (kept-cash es (h .cash)) (kept-covered (h .covered)) (record { n = more (r .n); c = kept (r .c); d = kept (r .d); b = kept (r .b) })
-  paid C =
-      let r = h .registers in
-      paid-into C (b .drawer .cash) _ (kept-cash es (h .cash)) (kept-covered (h .covered)) (record { n = kept (r .n); c = more (r .c); d = kept (r .d); b = kept (r .b) })
-  paid D =
-      let r = h .registers in
-      paid-into D (b .drawer .cash) _ (kept-cash es (h .cash)) (kept-covered (h .covered)) (record { n = kept (r .n); c = kept (r .c); d = more (r .d); b = kept (r .b) })
-  paid B =
-      let r = h .registers in
-      paid-into B (b .drawer .cash) _ (kept-cash es (h .cash)) (kept-covered (h .covered)) (record { n = kept (r .n); c = kept (r .c); d = kept (r .d); b = more (r .b) })
-
-pub payment-made : (es : List Entry) (b : Books) → Agrees es b → b .receipt .settled ≡ false → (p : Payment) → paidOf (b .receipt) (restOf b) (handed b p) .left < 10 ^ 10
-    → Agrees (doneWith (Pay p) (tendered (leb (restOf b) (handed b p)) (paidOf (b .receipt) (restOf b) (handed b p) .left)) ∷ es)
-    (raisedBy (withReceipt b (b .opened) (paidOf (b .receipt) (restOf b) (handed b p) .receipt)) (p .mode) (min (handed b p) (restOf b)))
-payment-made es b h unpaid p fit = paid es b h unpaid (p .tender) fit (p .mode)
+  pub paid-in : Says (after (Pays p) seen f) (paidInto b p)
+  paid-in = go (ltb here 4) refl
+    where
+      go : (has : Bool) → ltb here 4 ≡ has
+          → Says (after (Pays p) seen f)
+          (cond has
+          (withRegisters (withReceipt b (b .opened) (payment b p .receipt)) (set (b .registers) here (cond has (at (b .registers) here) (b .drawer .cash) + raised)))
+          (withDrawer (withReceipt b (b .opened) (payment b p .receipt)) (record { cash = cond has (at (b .registers) here) (b .drawer .cash) + raised; put = b .drawer .put; taken = b .drawer .taken })))
+      go true e =
+          let has = ltb-true here 4 e in
+          record {
+            opened = h .opened;
+            receipt = paid-receipt;
+            day = h .day;
+            registers = register-told has;
+            drawer = cash-told false (ne-eqb 4 here (λ z. omega (arith, z))) (b .drawer .cash) (omega arith);
+            counters = h .counters;
+            memory = h .memory;
+          }
+      go false e =
+          let none = ltb-false here 4 e in
+          record {
+            opened = h .opened;
+            receipt = paid-receipt;
+            day = h .day;
+            registers = other-register none;
+            drawer = cash-told true (eq-eqb 4 here (omega (arith, place-most (p .mode)))) (b .drawer .cash + raised) refl;
+            counters = h .counters;
+            memory = h .memory;
+          }

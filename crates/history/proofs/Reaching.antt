@@ -1,31 +1,40 @@
 -- What holds of the books in every state that a fresh device can reach.
-use mathlib.Core.Path.{_≡_, refl, sym, _∙_}
-use mathlib.Core.Bool.{Bool, true, false, cond, false≢true}
+use mathlib.Core.Path.{_≡_, refl, sym, ap, _∙_}
+use mathlib.Core.Bool.{Bool, true, false, cond, not, _||_, false≢true}
 use Prim.Native.Nat.{ℕ, _+_, _-_, _≤_, min}
 use native.Mathlib.Omega.{arith}
+use lib.Dec.{ltb}
 use lib.ListN.{length, set, length-set}
-use borrow.Author.Tests.{leb-true}
+use borrow.Author.Tests.{leb-true, lt-leb, le-ltb, not-false}
 use Rattle.kinds.specs.declared.Command.{Command}
 use Rattle.kinds.specs.declared.Mode.{Mode}
-use Rattle.kinds.specs.declared.Mode.the-variants.{Cash, N, C, D, B}
+use Rattle.kinds.specs.declared.Password.{Password}
 use Rattle.kinds.specs.declared.Payment.{Payment}
 use Rattle.kinds.specs.declared.Sale.{Sale}
 use Rattle.receipt.specs.Lines.{productOf, finishedOf}
-use Rattle.receipt.specs.Receipts.{emptyReceipt, groupAfter, withLine, paidOf}
-use Rattle.books.specs.Books.{freshBooks, fiscalOpen, textOpen, anyOpen, withReceipt}
+use Rattle.receipt.specs.Receipts.{emptyReceipt, groupAfter, withLine}
+use Rattle.books.specs.Books.{freshBooks, fiscalOpen, textOpen, anyOpen, withReceipt, withDrawer, withRegisters}
 use Rattle.books.specs.Groups.{eight, at, sum}
+use Rattle.books.specs.Registers.{place, registerOf, raisedBy}
 use Rattle.books.specs.Sound.{sound}
 use Rattle.books.specs.declared.Books.{Books}
 use Rattle.books.specs.declared.Opened.{Opened}
 use Rattle.books.specs.declared.Opened.the-variants.{Nothing, Fiscal, Text}
-use Rattle.deeds.specs.Holds.{holds}
-use Rattle.deeds.specs.Deeds.{raisedBy, deedOf, carriedOut}
+use Rattle.books.proofs.Eight.{capacity-small}
+use Rattle.books.proofs.Sounding.{memory-in, parts, within-eight, day-within}
+use Rattle.rules.specs.Effects.{payment}
+use Rattle.rules.specs.Reasons.{memoryOver, manyOpened, owed, tendered}
+use Rattle.rules.specs.Rules.{ruleOf}
+use Rattle.rules.specs.Views.{viewOf}
+use Rattle.rules.specs.declared.views.View.{View}
+use Rattle.rules.specs.declared.views.View.the-variants.{Opens, Sells, Pays, Closes, Cancels, OpensText, ClosesText, Clears, Puts, Takes, Asks}
+use Rattle.rules.proofs.Reasoning.{none-of, few-receipts}
+use Rattle.deeds.specs.Deeds.{carriedOut}
 use Rattle.deeds.specs.declared.Deed.{Deed}
-use Rattle.deeds.proofs.Judging.{kept-done, held-done}
 use Rattle.history.specs.Reached.{Reached, Receipted}
 use Rattle.history.proofs.Lists.{sum-eight-set}
 use Rattle.history.proofs.Soundness.{fresh-is-sound, step-sound}
-use Rattle.history.proofs.Steps.{Step, Line, restOf, handed, refused, textOpens, textCloses, prints, opens, sells, subtotals, pays, closes, cancels, sums, clears, reports, looks, puts, takes, status, rates, taken}
+use Rattle.history.proofs.Steps.{Free, Step, Line, refused, goes, line-done, payment-done, taken}
 
 pub empty-receipted : Receipted emptyReceipt
 empty-receipted =
@@ -45,7 +54,7 @@ line-total true all after x p f total h e s = omega (arith, h refl)
 line-total false all after x p f total h e s = omega arith
 
 module _ (b : Books) (h : Receipted (b .receipt)) where
-  line-receipted : (s : Sale) → Line b s → Receipted (withLine (b .receipt) s)
+  pub line-receipted : (s : Sale) → Line b s → Receipted (withLine (b .receipt) s)
   line-receipted s l =
       let r = b .receipt in
       record {
@@ -58,25 +67,29 @@ module _ (b : Books) (h : Receipted (b .receipt)) where
         unsettled = h .unsettled;
       }
 
-  paid-receipted : (p : Payment) → Receipted (paidOf (b .receipt) (restOf b) (handed b p) .receipt)
+  paid-receipted : (p : Payment) → Receipted (payment b p .receipt)
   paid-receipted p =
       record {
         eight-groups = h .eight-groups;
         total = h .total;
         not-overpaid = omega (arith, h .not-overpaid);
-        paid-up = λ e. omega (arith, h .not-overpaid, leb-true (restOf b) (handed b p) e);
+        paid-up = λ e. omega (arith, h .not-overpaid, leb-true (owed b) (tendered b p) e);
         unpaid = λ e. absurd (false≢true (sym e));
         unsettled = λ e. absurd (false≢true (sym e));
       }
 
 -- what is raised is no receipt
-raised-reached : (b : Books) (m : Mode) (x : ℕ) → sound (raisedBy b m x) ≡ true → Receipted (b .receipt) → length (b .day) ≡ 8
+abbrev raisedIf : Books → Mode → ℕ → Bool → Books
+raisedIf b m x has =
+    cond has (withRegisters b (set (b .registers) (place m) (registerOf b m + x))) (withDrawer b (record { cash = registerOf b m + x; put = b .drawer .put; taken = b .drawer .taken }))
+
+raised-reached : (b : Books) (m : Mode) (x : ℕ) → sound (raisedBy b m x) ≡ true → Receipted (b .receipt) → length (b .day) ≡ 8 → length (b .registers) ≡ 4
     → (fiscalOpen (b .opened) ≡ false → b .receipt ≡ emptyReceipt) → Reached (raisedBy b m x)
-raised-reached b Cash x s r l o = record { fits = s; receipt = r; eight-sums = l; blank = o }
-raised-reached b N x s r l o = record { fits = s; receipt = r; eight-sums = l; blank = o }
-raised-reached b C x s r l o = record { fits = s; receipt = r; eight-sums = l; blank = o }
-raised-reached b D x s r l o = record { fits = s; receipt = r; eight-sums = l; blank = o }
-raised-reached b B x s r l o = record { fits = s; receipt = r; eight-sums = l; blank = o }
+raised-reached b m x s r l n o = go (ltb (place m) 4) s
+  where
+    go : (has : Bool) → sound (raisedIf b m x has) ≡ true → Reached (raisedIf b m x has)
+    go true s = record { fits = s; receipt = r; eight-sums = l; four-registers = length-set (b .registers) (place m) (registerOf b m + x) ∙ n; blank = o }
+    go false s = record { fits = s; receipt = r; eight-sums = l; four-registers = n; blank = o }
 
 none-fiscal : (o : Opened) → anyOpen o ≡ false → fiscalOpen o ≡ false
 none-fiscal Nothing e = refl
@@ -91,47 +104,72 @@ text-fiscal Text e = refl
 never : {A : Type 0} (o : Opened) → fiscalOpen o ≡ true → fiscalOpen o ≡ false → A
 never o e f = absurd (false≢true (sym f ∙ e))
 
-pub reaching : {b : Books} {c : Command} {e : Deed} → Reached b → Step b c e → Reached (e .books)
-reaching {b} h (refused m l) = h
-reaching {b} h (textOpens o a) =
-    record { fits = step-sound b (h .fits) (textOpens o a); receipt = h .receipt; eight-sums = h .eight-sums; blank = λ e. h .blank (none-fiscal (b .opened) o) }
-reaching {b} h (textCloses o) =
-    record { fits = step-sound b (h .fits) (textCloses o); receipt = h .receipt; eight-sums = h .eight-sums; blank = λ e. h .blank (text-fiscal (b .opened) o) }
-reaching {b} h prints = h
-reaching {b} h (opens {op} {till} {p} a) =
-    record { fits = step-sound b (h .fits) (opens {op = op} {till = till} {p = p} a); receipt = empty-receipted; eight-sums = h .eight-sums; blank = λ e. refl }
-reaching {b} h (sells s l) =
+pub reaching : (b : Books) → Reached b → (v : View) → Free b v → Reached (ruleOf b v .after)
+reaching b h (Opens p) f =
+    record { fits = step-sound b (h .fits) (Opens p) f; receipt = empty-receipted; eight-sums = h .eight-sums; four-registers = h .four-registers; blank = λ e. refl }
+reaching b h (Sells s) f =
+    let l = line-done b s f in
     record {
-      fits = step-sound b (h .fits) (sells s l);
+      fits = step-sound b (h .fits) (Sells s) f;
       receipt = line-receipted b (h .receipt) s l;
       eight-sums = h .eight-sums;
+      four-registers = h .four-registers;
       blank = never (b .opened) (l .isOpen);
     }
-reaching {b} h subtotals = h
-reaching {b} h (pays p o f l) =
-    raised-reached (withReceipt b (b .opened) (paidOf (b .receipt) (restOf b) (handed b p) .receipt)) (p .mode) (min (handed b p) (restOf b))
-    (step-sound b (h .fits) (pays p o f l)) (paid-receipted b (h .receipt) p) (h .eight-sums) (never (b .opened) o)
-reaching {b} h (closes o f) = record { fits = step-sound b (h .fits) (closes o f); receipt = empty-receipted; eight-sums = refl; blank = λ e. refl }
-reaching {b} h (cancels o) =
-    record { fits = step-sound b (h .fits) (cancels o); receipt = empty-receipted; eight-sums = h .eight-sums; blank = λ e. refl }
-reaching {b} h sums = h
-reaching {b} h (clears o l) =
-    record { fits = step-sound b (h .fits) (clears o l); receipt = h .receipt; eight-sums = refl; blank = h .blank }
-reaching {b} h reports = h
-reaching {b} h looks = h
-reaching {b} h (puts n l m) =
-    record { fits = step-sound b (h .fits) (puts n l m); receipt = h .receipt; eight-sums = h .eight-sums; blank = h .blank }
-reaching {b} h (takes n l m) =
-    record { fits = step-sound b (h .fits) (takes n l m); receipt = h .receipt; eight-sums = h .eight-sums; blank = h .blank }
-reaching {b} h status = h
-reaching {b} h rates = h
+reaching b h (Pays p) f =
+    raised-reached (withReceipt b (b .opened) (payment b p .receipt)) (p .mode) (min (tendered b p) (owed b)) (step-sound b (h .fits) (Pays p) f)
+    (paid-receipted b (h .receipt) p) (h .eight-sums) (h .four-registers) (never (b .opened) (payment-done b p f .isOpen))
+reaching b h Closes f =
+    record { fits = step-sound b (h .fits) Closes f; receipt = empty-receipted; eight-sums = refl; four-registers = h .four-registers; blank = λ e. refl }
+reaching b h Cancels f =
+    record { fits = step-sound b (h .fits) Cancels f; receipt = empty-receipted; eight-sums = h .eight-sums; four-registers = h .four-registers; blank = λ e. refl }
+reaching b h OpensText f =
+    let none = none-of (anyOpen (b .opened)) (manyOpened b) (f .three) in
+    record {
+      fits = step-sound b (h .fits) OpensText f;
+      receipt = h .receipt;
+      eight-sums = h .eight-sums;
+      four-registers = h .four-registers;
+      blank = λ e. h .blank (none-fiscal (b .opened) (none .0));
+    }
+reaching b h ClosesText f =
+    record {
+      fits = step-sound b (h .fits) ClosesText f;
+      receipt = h .receipt;
+      eight-sums = h .eight-sums;
+      four-registers = h .four-registers;
+      blank = λ e. h .blank (text-fiscal (b .opened) (not-false (textOpen (b .opened)) (f .three)));
+    }
+reaching b h Clears f =
+    record { fits = step-sound b (h .fits) Clears f; receipt = h .receipt; eight-sums = refl; four-registers = refl; blank = h .blank }
+reaching b h (Puts n) f =
+    record { fits = step-sound b (h .fits) (Puts n) f; receipt = h .receipt; eight-sums = h .eight-sums; four-registers = h .four-registers; blank = h .blank }
+reaching b h (Takes n) f =
+    record { fits = step-sound b (h .fits) (Takes n) f; receipt = h .receipt; eight-sums = h .eight-sums; four-registers = h .four-registers; blank = h .blank }
+reaching b h (Asks when shown) f = h
 
 pub fresh-reached : Reached freshBooks
-fresh-reached = record { fits = fresh-is-sound; receipt = empty-receipted; eight-sums = refl; blank = λ e. refl }
+fresh-reached = record { fits = fresh-is-sound; receipt = empty-receipted; eight-sums = refl; four-registers = refl; blank = λ e. refl }
 
 pub reached-stays : (b : Books) (c : Command) → Reached b → Reached (carriedOut b c .books)
-reached-stays b c h = reaching h (taken b c)
+reached-stays b c h = go (taken b c)
+  where
+    go : {v : View} {d : Deed} → Step b v d → Reached (d .books)
+    go (refused m l) = h
+    go {v} (goes f) = reaching b h v f
 
--- such books are never refused for not being sound
-pub every-command-judged : (b : Books) (c : Command) → Reached b → holds c ≡ true → carriedOut b c ≡ deedOf b c
-every-command-judged b c h e = sym (kept-done b (deedOf b c) (h .fits) ∙ held-done b c e)
+-- in such books 48, 56 and 69 have no reason for 4 (PROTOCOL 8.7)
+pub opening-never-over : (b : Books) (p : Password) → Reached b → ruleOf b (Opens p) .three ≡ false → ruleOf b (Opens p) .four ≡ false
+opening-never-over b p h e = lt-leb 9999 (b .counters .fiscal) (omega (arith, few-receipts b p e, parts b (h .fits) .fiscal))
+
+pub closing-never-over : (b : Books) → Reached b → ruleOf b Closes .four ≡ false
+closing-never-over b h = ap not (parts b (h .fits) .groups)
+
+pub clearing-never-over : (b : Books) → Reached b → ruleOf b Clears .four ≡ false
+clearing-never-over b h =
+    let k = parts b (h .fits) in
+    let m = memory-in b (k .memory) in
+    let most = within-eight (at (b .day)) (day-within b (k .groups)) in
+    let little : b .memory .total + sum (eight (at (b .day))) ≤ 99999999999999999 =
+    omega (arith, m .0, m .1, capacity-small b, most 0 (omega arith), most 1 (omega arith), most 2 (omega arith), most 3 (omega arith), most 4 (omega arith), most 5 (omega arith), most 6 (omega arith), most 7 (omega arith)) in
+    ap (λ z. not z || memoryOver b) (k .groups) ∙ le-ltb 99999999999999999 (b .memory .total + sum (eight (at (b .day)))) little

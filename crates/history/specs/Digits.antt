@@ -1,16 +1,15 @@
 -- PROTOCOL 8.2: every field that an answer shows, within its digits.
 use Prim.Native.Nat.{ℕ, _^_, _<_}
-use mathlib.Core.Bool.{Bool, true}
-use lib.Dec.{ltb}
+use mathlib.Core.Path.{_≡_}
+use mathlib.Core.Bool.{false}
 use Rattle.amounts.specs.Amounts.{taxOf}
-use Rattle.kinds.specs.declared.Command.{Command}
-use Rattle.kinds.specs.declared.Tender.{Tender}
-use Rattle.kinds.specs.declared.Tender.the-variants.{Rest, Amount}
 use Rattle.books.specs.Groups.{at}
 use Rattle.books.specs.declared.Books.{Books}
 use Rattle.books.specs.declared.Shown.{Shown}
 use Rattle.books.specs.declared.Shown.the-variants as shown
-use Rattle.history.specs.Entries.{ofPayment}
+use Rattle.rules.specs.Rules.{ruleOf}
+use Rattle.rules.specs.declared.views.View.{View}
+use Rattle.history.specs.Entries.{ofAsked}
 
 -- PROTOCOL 4.9: 10 digits for sums of a receipt; 12 for day sums, taxes, cash and service sums; 4 for counters and closings; 17 for FM
 pub record InDigits (b : Books) : Type 0 where
@@ -40,10 +39,7 @@ leftOf shown.InDrawer = 0
 leftOf shown.Status = 0
 leftOf shown.Rates = 0
 
--- PROTOCOL 5.6, 4.2: the amount has ten digits of stotinki at most, as every PRICE has, and so that of every command read from data
-abbrev pub isPrice : Tender → Bool
-isPrice Rest = true
-isPrice (Amount n) = ltb n 10000000000
-
-abbrev pub priced : Command → Bool
-priced c = ofPayment true (λ p. isPrice (p .tender)) c
+-- DECISIONS 57, 58: a command as data gives it: no number that is 1, and where it only asks neither rest nor change is shown
+pub record Given (v : View) : Type 0 where
+  pub one : (b : Books) → ruleOf b v .one ≡ false
+  pub rest : ofAsked 0 leftOf v ≡ 0

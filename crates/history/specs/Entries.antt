@@ -1,15 +1,19 @@
 -- PROTOCOL 1.11: the commands a device has carried out, each with its reply: what the figures of the history are told from (DECISIONS 58).
 use Prim.Native.Nat.{ℕ, zero, suc}
-use mathlib.Core.Bool.{Bool, true, false, _&&_}
+use mathlib.Core.Bool.{Bool, true, false, cond}
 use mathlib.Core.List.{List}
 use lib.Dec.{eqb}
 use Rattle.kinds.specs.declared.Command.{Command}
-use Rattle.kinds.specs.declared.Command.the-variants.{OpenText, CloseText, PrintText, Open, Sell, Subtotal, Pay, Close, Cancel, Sums, Closing, Drawer, Status, Rates}
 use Rattle.kinds.specs.declared.Payment.{Payment}
 use Rattle.kinds.specs.declared.Sale.{Sale}
-use Rattle.kinds.specs.declared.Service.{Service}
 use Rattle.books.specs.declared.Books.{Books}
+use Rattle.books.specs.declared.Shown.{Shown}
+use Rattle.books.specs.declared.Shown.the-variants.{Nothing}
 use Rattle.answers.specs.Contents.{contentOf}
+use Rattle.rules.specs.Views.{viewOf}
+use Rattle.rules.specs.declared.views.View.{View}
+use Rattle.rules.specs.declared.views.View.the-variants.{Opens, Sells, Pays, Closes, Cancels, OpensText, ClosesText, Clears, Puts, Takes, Asks}
+use Rattle.rules.specs.declared.views.When.the-variants.{Always}
 use Rattle.deeds.specs.declared.Deed.{Deed}
 
 -- a command carried out, its reply number, and the data of its answer, byte for byte
@@ -27,89 +31,77 @@ abbrev pub isDone : ℕ → Bool
 isDone zero = true
 isDone (suc n) = false
 
--- PROTOCOL 5.1: the fourteen kinds by their codes
-abbrev pub code : Command → ℕ
-code OpenText = 38
-code CloseText = 39
-code PrintText = 42
-code (Open op password till) = 48
-code (Sell s) = 49
-code (Subtotal print show) = 51
-code (Pay p) = 53
-code Close = 56
-code Cancel = 60
-code (Sums taxes) = 65
-code (Closing clears) = 69
-code (Drawer s) = 70
-code Status = 74
-code Rates = 97
+-- PROTOCOL 2.3: what an entry did to the books; a refusal counts for nothing, like a command that only asks
+abbrev pub didOf : Entry → View
+didOf e = cond (isDone (e .number)) (viewOf (e .command)) (Asks Always Nothing)
 
--- the command with this code, and done
-abbrev pub did : ℕ → Entry → Bool
-did n e = isDone (e .number) && eqb (code (e .command)) n
+-- PROTOCOL 5.1: the code of what changes the books; 0 where nothing changes
+abbrev pub codeOf : View → ℕ
+codeOf (Opens password) = 48
+codeOf (Sells s) = 49
+codeOf (Pays p) = 53
+codeOf Closes = 56
+codeOf Cancels = 60
+codeOf OpensText = 38
+codeOf ClosesText = 39
+codeOf Clears = 69
+codeOf (Puts n) = 70
+codeOf (Takes n) = 70
+codeOf (Asks when shown) = 0
 
--- what a line, a payment, a closing and 70 hold; of every other command `none`
+abbrev pub does : ℕ → View → Bool
+does code v = eqb (codeOf v) code
+
+-- what a line, a payment, 70 with an amount, and a command that only asks hold; of every other view `none`
 module _ {A : Type 0} (none : A) where
-  abbrev pub ofSale : (Sale → A) → Command → A
-  ofSale f OpenText = none
-  ofSale f CloseText = none
-  ofSale f PrintText = none
-  ofSale f (Open op password till) = none
-  ofSale f (Sell s) = f s
-  ofSale f (Subtotal print show) = none
-  ofSale f (Pay p) = none
-  ofSale f Close = none
-  ofSale f Cancel = none
-  ofSale f (Sums taxes) = none
-  ofSale f (Closing clears) = none
-  ofSale f (Drawer s) = none
-  ofSale f Status = none
-  ofSale f Rates = none
+  abbrev pub ofSale : (Sale → A) → View → A
+  ofSale f (Opens password) = none
+  ofSale f (Sells s) = f s
+  ofSale f (Pays p) = none
+  ofSale f Closes = none
+  ofSale f Cancels = none
+  ofSale f OpensText = none
+  ofSale f ClosesText = none
+  ofSale f Clears = none
+  ofSale f (Puts n) = none
+  ofSale f (Takes n) = none
+  ofSale f (Asks when shown) = none
 
-  abbrev pub ofPayment : (Payment → A) → Command → A
-  ofPayment f OpenText = none
-  ofPayment f CloseText = none
-  ofPayment f PrintText = none
-  ofPayment f (Open op password till) = none
-  ofPayment f (Sell s) = none
-  ofPayment f (Subtotal print show) = none
-  ofPayment f (Pay p) = f p
-  ofPayment f Close = none
-  ofPayment f Cancel = none
-  ofPayment f (Sums taxes) = none
-  ofPayment f (Closing clears) = none
-  ofPayment f (Drawer s) = none
-  ofPayment f Status = none
-  ofPayment f Rates = none
+  abbrev pub ofPayment : (Payment → A) → View → A
+  ofPayment f (Opens password) = none
+  ofPayment f (Sells s) = none
+  ofPayment f (Pays p) = f p
+  ofPayment f Closes = none
+  ofPayment f Cancels = none
+  ofPayment f OpensText = none
+  ofPayment f ClosesText = none
+  ofPayment f Clears = none
+  ofPayment f (Puts n) = none
+  ofPayment f (Takes n) = none
+  ofPayment f (Asks when shown) = none
 
-  abbrev pub ofClosing : (Bool → A) → Command → A
-  ofClosing f OpenText = none
-  ofClosing f CloseText = none
-  ofClosing f PrintText = none
-  ofClosing f (Open op password till) = none
-  ofClosing f (Sell s) = none
-  ofClosing f (Subtotal print show) = none
-  ofClosing f (Pay p) = none
-  ofClosing f Close = none
-  ofClosing f Cancel = none
-  ofClosing f (Sums taxes) = none
-  ofClosing f (Closing clears) = f clears
-  ofClosing f (Drawer s) = none
-  ofClosing f Status = none
-  ofClosing f Rates = none
+  abbrev pub ofService : (puts takes : ℕ → A) → View → A
+  ofService f g (Opens password) = none
+  ofService f g (Sells s) = none
+  ofService f g (Pays p) = none
+  ofService f g Closes = none
+  ofService f g Cancels = none
+  ofService f g OpensText = none
+  ofService f g ClosesText = none
+  ofService f g Clears = none
+  ofService f g (Puts n) = f n
+  ofService f g (Takes n) = g n
+  ofService f g (Asks when shown) = none
 
-  abbrev pub ofService : (Service → A) → Command → A
-  ofService f OpenText = none
-  ofService f CloseText = none
-  ofService f PrintText = none
-  ofService f (Open op password till) = none
-  ofService f (Sell s) = none
-  ofService f (Subtotal print show) = none
-  ofService f (Pay p) = none
-  ofService f Close = none
-  ofService f Cancel = none
-  ofService f (Sums taxes) = none
-  ofService f (Closing clears) = none
-  ofService f (Drawer s) = f s
-  ofService f Status = none
-  ofService f Rates = none
+  abbrev pub ofAsked : (Shown → A) → View → A
+  ofAsked f (Opens password) = none
+  ofAsked f (Sells s) = none
+  ofAsked f (Pays p) = none
+  ofAsked f Closes = none
+  ofAsked f Cancels = none
+  ofAsked f OpensText = none
+  ofAsked f ClosesText = none
+  ofAsked f Clears = none
+  ofAsked f (Puts n) = none
+  ofAsked f (Takes n) = none
+  ofAsked f (Asks when shown) = f shown

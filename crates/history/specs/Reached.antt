@@ -21,7 +21,7 @@ pub record Unchanged (b : Books) (d : Deed) : Type 0 where
 -- PROTOCOL 5.13: day sums, registers, All, Fiscal, In and Out are zero; cash stays
 pub record DayCleared (before after : Books) : Type 0 where
   pub day : after .day ≡ replicate 8 0
-  pub registers : after .registers ≡ record { n = 0; c = 0; d = 0; b = 0 }
+  pub registers : after .registers ≡ replicate 4 0
   pub counters : after .counters ≡ record { all = 0; fiscal = 0 }
   pub put : after .drawer .put ≡ 0
   pub taken : after .drawer .taken ≡ 0
@@ -46,5 +46,6 @@ pub record Reached (b : Books) : Type 0 where
   pub fits : sound b ≡ true
   pub receipt : Receipted (b .receipt)
   pub eight-sums : length (b .day) ≡ 8
+  pub four-registers : length (b .registers) ≡ 4
   -- DECISIONS 25: nothing stands on a receipt that is not open
   pub blank : fiscalOpen (b .opened) ≡ false → b .receipt ≡ emptyReceipt

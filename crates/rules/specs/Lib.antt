@@ -1,0 +1,4 @@
+pub mod Views
+pub mod Reasons
+pub mod Effects
+pub mod Rules

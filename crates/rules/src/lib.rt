@@ -1,0 +1,3 @@
+// What each command is to the books, and what its rule asks of them (PROTOCOL chapter 5).
+pub mod tests;
+pub mod views;

@@ -1,0 +1,114 @@
+// What each command is to the books (PROTOCOL 5.1): the one table over the fourteen kinds.
+use books::Shown;
+use kinds::Command;
+use kinds::Password;
+use kinds::Payment;
+use kinds::Sale;
+use kinds::Service;
+ghost use mathlib.Core.Path.{_≡_};
+ghost use Rattle.kinds.specs.declared.Command.the-variants.{Sums, Closing, Drawer};
+ghost use Rattle.rules.specs.Views.{viewOf};
+
+// What has to be open for a command that only asks (PROTOCOL 5.2).
+pub enum When {
+    Always,
+    FiscalIsOpen,
+    TextIsOpen,
+    NoneIsOpen,
+}
+
+// The ten ways to change the books, and one for every command that changes nothing in them.
+pub enum View {
+    Opens(Password),
+    Sells(Sale),
+    Pays(Payment),
+    Closes,
+    Cancels,
+    OpensText,
+    ClosesText,
+    Clears,
+    Puts(u64),
+    Takes(u64),
+    Asks { when: When, shown: Shown },
+}
+
+// The view of any command.
+pub fn view_of(command: Command) -> View
+    ensures { λ r. ⌜ r ≡ viewOf command ⌝ }
+{
+    match command {
+        Command::OpenText => View::OpensText,
+        Command::CloseText => View::ClosesText,
+        Command::PrintText => View::Asks {
+            when: When::TextIsOpen,
+            shown: Shown::Nothing,
+        },
+        Command::Open {
+            op: _,
+            password,
+            till: _,
+        } => View::Opens(password),
+        Command::Sell(s) => View::Sells(s),
+        Command::Subtotal { print: _, show: _ } => View::Asks {
+            when: When::FiscalIsOpen,
+            shown: Shown::Subtotal,
+        },
+        Command::Pay(p) => View::Pays(p),
+        Command::Close => View::Closes,
+        Command::Cancel => View::Cancels,
+        Command::Sums { taxes } => of_sums(taxes),
+        Command::Closing { clears } => of_closing(clears),
+        Command::Drawer(s) => of_service(s),
+        Command::Status => View::Asks {
+            when: When::Always,
+            shown: Shown::Status,
+        },
+        Command::Rates => View::Asks {
+            when: When::Always,
+            shown: Shown::Rates,
+        },
+    }
+}
+
+// 65 asks for the taxes or for the day sums.
+fn of_sums(taxes: bool) -> View
+    ensures { λ r. ⌜ r ≡ viewOf (Sums taxes) ⌝ }
+{
+    if taxes {
+        return View::Asks {
+            when: When::Always,
+            shown: Shown::Taxes,
+        };
+    }
+    View::Asks {
+        when: When::Always,
+        shown: Shown::DaySums,
+    }
+}
+
+// 69 closes the day, or only reports.
+fn of_closing(clears: bool) -> View
+    ensures { λ r. ⌜ r ≡ viewOf (Closing clears) ⌝ }
+{
+    if clears {
+        return View::Clears;
+    }
+    View::Asks {
+        when: When::NoneIsOpen,
+        shown: Shown::Closure,
+    }
+}
+
+// 70 puts in, takes out, or only reports.
+fn of_service(s: Service) -> View
+    ensures { λ r. ⌜ r ≡ viewOf (Drawer s) ⌝ }
+{
+    match s {
+        Service::Report => View::Asks {
+            when: When::NoneIsOpen,
+            shown: Shown::InDrawer,
+        },
+        Service::In(n) => View::Puts(n),
+        Service::Out(n) => View::Takes(n),
+    }
+}
