@@ -12,12 +12,11 @@ use Rattle.wire.specs.Frame.{Message}
 use Rattle.reader.specs.Reading.{Place, Event, nothing, brokenFrame, heard}
 use Rattle.books.specs.Sound.{sound}
 use Rattle.books.specs.declared.Books.{Books}
-use Rattle.kinds.specs.declared.Command.{Command}
 use Rattle.kinds.specs.declared.Parsed.{Parsed}
 use Rattle.kinds.specs.declared.Parsed.the-variants.{Read, Syntax, Unknown}
 use Rattle.command.specs.Commands.{parsedOf}
-use Rattle.deeds.specs.Deeds.{refusedWith, kept, deedOf}
-use Rattle.deeds.specs.Holds.{holds}
+use Rattle.rules.specs.Views.{viewOf}
+use Rattle.deeds.specs.Deeds.{refusedWith, deedOf}
 use Rattle.deeds.specs.declared.Deed.{Deed}
 use Rattle.line.specs.Turns as line
 use Rattle.device.specs.Carrying.{deedFor, carry}
@@ -29,13 +28,9 @@ use Rattle.promises.specs.AtTill.{isFailed, fails, row-0-byte, row-0-ans
 use Rattle.promises.specs.AtTill as at-till-end
 use Rattle.promises.specs.Demand1.{Bench, Comes, atDevice, atTill, fromDevice, fromTill, Outcome, ByTheTable, at-device, at-till}
 use Rattle.promises.specs.Ends.{ofDevice, ofTill, outcomeOf, Beyond, unsound-books, more-tries}
-use Rattle.promises.proofs.Verdicts.{Right, is-read, parsed-right}
 use Rattle.promises.proofs.DeviceRows.{short7, again, order, ordered}
 use Rattle.promises.proofs.TillRows.{taking}
 use Rattle.promises.proofs.Demand1.{by-the-device}
-
-read-holds : {c : Command} → Right (Read c) → holds c ≡ true
-read-holds (is-read r) = r
 
 abbrev Says : Bench → Comes → Outcome → Type 0
 Says s c r = ByTheTable s c r ⊎ Beyond s c r
@@ -51,8 +46,7 @@ module _ (s : Bench) (bad : sound (s .device .books) ≡ false) (buffer : List �
   by-kind m n Unknown e = inl (at-device (row-2 m n e))
   by-kind m n (Read c) e =
       subst (λ (d : Deed). Says s (atDevice buffer byte) (fromDevice (ofDevice buffer (order (s .device) next m d))))
-      (sym (ap (λ z. cond z (kept (s .device .books) (deedOf (s .device .books) c)) (refusedWith 1 (s .device .books))) (read-holds (subst Right e (parsed-right (m .code) (m .content))))
-      ∙ ap (λ z. cond z (deedOf (s .device .books) c) (refusedWith 4 (s .device .books))) bad))
+      (sym (ap (λ z. cond z (deedOf (s .device .books) (viewOf c)) (refusedWith 4 (s .device .books))) bad))
       (inr (unsound-books m c (record { frame = n; kind = e }) bad))
 
   by-event : 217 ≤ length buffer → (e : Event) → reads (s .device) byte .event ≡ e

@@ -16,11 +16,10 @@ use Rattle.kinds.specs.declared.Command as kinds
 use Rattle.kinds.specs.declared.Parsed.{Parsed}
 use Rattle.kinds.specs.declared.Parsed.the-variants.{Read, Syntax, Unknown}
 use Rattle.command.specs.Commands.{parsedOf}
-use Rattle.deeds.specs.Reasons.{three, four}
-use Rattle.deeds.specs.Effects.{effect, shows}
-use Rattle.deeds.specs.Deeds.{refusedWith, done, judged, kept, byReasons, deedOf}
+use Rattle.rules.specs.Rules.{three, four, effect, shows}
+use Rattle.rules.specs.Views.{viewOf}
+use Rattle.deeds.specs.Deeds.{refusedWith, done, deedOf}
 use Rattle.deeds.specs.declared.Deed.{Deed}
-use Rattle.deeds.proofs.Reasons.{judged-by-its-reasons}
 use Rattle.line.specs.Turns.{was, State, Carried, Turn, repeats, lastAnswer, onEvent, turn}
 use Rattle.device.specs.Carrying.{deedFor, carriedAs, carry}
 use Rattle.device.specs.Device.{lentTurn}
@@ -28,9 +27,12 @@ use Rattle.promises.specs.AtDevice.{FromDevice, reads, NewFrame, NewComm
 use Rattle.promises.specs.Ends.{ofDevice}
 use Rattle.promises.proofs.Verdicts.{Right, syntax, no-kind, is-read, parsed-right}
 
--- what a whole frame asks of the books, by the reasons
+-- what a whole frame asks of the books, by the reasons for 3 and for 4
+abbrev byThese : Books → kinds.Command → Bool → Bool → Deed
+byThese b c for3 for4 = cond for3 (refusedWith 3 b) (cond for4 (refusedWith 4 b) (done (effect b c) (shows b c)))
+
 abbrev pub tableDeed : Books → Parsed → Deed
-tableDeed b (Read c) = byReasons b c
+tableDeed b (Read c) = byThese b c (three b c) (four b c)
 tableDeed b Syntax = refusedWith 1 b
 tableDeed b Unknown = refusedWith 2 b
 
@@ -53,7 +55,7 @@ module _ (s : State Books) where
   order next m d = ordered next m (carriedAs (s .books) (m .seq) (m .code) d)
 
   abbrev reasoned : kinds.Command → Bool → Bool → Deed
-  reasoned c for3 for4 = judged (s .books) for3 for4 (done (effect (s .books) c) (shows (s .books) c))
+  reasoned c for3 for4 = byThese (s .books) c for3 for4
 
   abbrev pub tableTurn : ℕ → ℕ → Turn Books
   tableTurn room byte = cond (ltb room 217) short7 (turn tableCarry s byte)
@@ -133,7 +135,7 @@ carried-by : (b : Books) → sound b ≡ true → (p : Parsed) → Right p → d
 carried-by b e Syntax syntax = refl
 carried-by b e Unknown no-kind = refl
 carried-by b e (Read c) (is-read r) =
-    ap (λ z. cond z (kept b (deedOf b c)) (refusedWith 1 b)) r ∙ ap (λ z. cond z (deedOf b c) (refusedWith 4 b)) e ∙ judged-by-its-reasons b c r
+    ap (λ z. cond z (deedOf b (viewOf c)) (refusedWith 4 b)) e ∙ ap (λ z. cond z (refusedWith 1 b) (byThese b c (three b c) (four b c))) (r .one b)
 
 same-carry : (b : Books) → sound b ≡ true → (m : Message) → carry b m ≡ tableCarry b m
 same-carry b e m = ap (carriedAs b (m .seq) (m .code)) (carried-by b e (parsedOf (m .code) (m .content)) (parsed-right (m .code) (m .content)))

@@ -36,7 +36,7 @@ use Rattle.history.proofs.Histories.{fresh-agrees, agreement-stays}
 use Rattle.history.proofs.Laws.{seventy-shows-the-drawer}
 use Rattle.history.proofs.Reaching.{fresh-reached, reached-stays}
 use Rattle.promises.specs.Demand2.{LentByte, alwaysLent, turnBy, turnsOf, deviceAfter, allGiven, allCarried, dataIn, withRead, withTurn, toldBy, freshDevice, entriesOf, booksAfter, cashIn}
-use Rattle.promises.proofs.Verdicts.{Right, syntax, no-kind, is-read, parsed-right, right-priced}
+use Rattle.promises.proofs.Verdicts.{Right, syntax, no-kind, is-read, parsed-right}
 
 -- the data stands in an answer's frame where it is read from
 module _ (content behind frame-end bcc-part : List ℕ) where
@@ -112,7 +112,7 @@ module _ (es : List Entry) (s : State Books) (r : Reached (s .books)) (h : Agree
   read-agrees : (next : Place) (m : Message) (x : Parsed) → Right x → Agrees (withRead (orderAs s next m x) x es) (deedFor (s .books) x .books)
   read-agrees next m (Read c) (is-read k) =
       subst (λ e. Agrees (e ∷ es) (carriedOut (s .books) c .books)) (sym (told-as-done (s .books) (m .seq) (m .code) c (carriedOut (s .books) c)))
-      (agreement-stays es (s .books) c r (right-priced c k) h)
+      (agreement-stays es (s .books) c r k h)
   read-agrees next m Syntax syntax = h
   read-agrees next m Unknown no-kind = h
 
