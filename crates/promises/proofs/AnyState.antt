@@ -1,5 +1,5 @@
 -- Demand 1 from any state: the reply is by the table, or the state is one that no history of fresh ends comes to, and then `Beyond` says it.
-use mathlib.Core.Path.{_≡_, refl, sym, ap, _∙_, subst}
+use mathlib.Core.Path.{_≡_, refl, sym, ap, subst}
 use mathlib.Core.Bool.{Bool, true, false, cond}
 use mathlib.Core.List.{List}
 use mathlib.Core.Logic.{_⊎_, inl, inr}

@@ -5,7 +5,7 @@ use mathlib.Core.List.{List, [], _∷_}
 use Prim.Native.Nat.{ℕ, _-_, _<_}
 use native.Mathlib.Omega.{arith}
 use lib.Dec.{eqb, leb, ltb}
-use lib.ListN.{length, drop, getD}
+use lib.ListN.{length, drop}
 use borrow.Author.Tests.{leb-true, le-leb, lt-ltb}
 use Rattle.wire.specs.Bytes.{within}
 use Rattle.wire.proofs.Suits.{both}
@@ -16,21 +16,21 @@ use Rattle.figures.specs.declared.Number.the-variants.{Is, NotOne}
 use Rattle.figures.specs.declared.Signed.{Signed}
 use Rattle.figures.specs.declared.Signed.the-variants.{By, Neither}
 use Rattle.figures.proofs.Bounds.{price-small, quantity-some, quantity-small, percent-small, signed-price-small}
-use Rattle.lines.specs.Texts.{isText, restOf}
+use Rattle.lines.specs.Texts.{restOf}
 use Rattle.lines.specs.declared.Found.{Found}
 use Rattle.lines.specs.declared.Found.the-variants.{At, NotThere}
 use Rattle.kinds.specs.Fields.{comma, endsOr}
-use Rattle.kinds.specs.Plain.{bareOf, openOf, isFlag, sumsOf, closingOf}
+use Rattle.kinds.specs.Plain.{openOf, sumsOf, closingOf}
 use Rattle.kinds.specs.declared.Adjust.{Adjust}
 use Rattle.kinds.specs.declared.Adjust.the-variants.{Nothing, PercentMore, PercentLess, AmountMore, AmountLess}
 use Rattle.kinds.specs.declared.Command.{Command}
-use Rattle.kinds.specs.declared.Command.the-variants.{OpenText, CloseText, PrintText, Open, Sell, Subtotal, Pay, Close, Cancel, Sums, Closing, Drawer, Status, Rates}
+use Rattle.kinds.specs.declared.Command.the-variants.{Drawer}
 use Rattle.kinds.specs.declared.Mode.{Mode}
 use Rattle.kinds.specs.declared.Mode.the-variants.{Cash}
 use Rattle.kinds.specs.declared.Parsed.{Parsed}
 use Rattle.kinds.specs.declared.Parsed.the-variants.{Read, Syntax, Unknown}
 use Rattle.kinds.specs.declared.Service.the-variants.{In, Out}
-use Rattle.command.specs.Money.{star, semicolon, groupOf, quantityIn, pricedOf, withPercent, withAmount, saleOf, behindTabOf, restThen, isMode, modeOf, tenderOf, paymentIn, payOf, drawerOf}
+use Rattle.command.specs.Money.{star, semicolon, groupOf, quantityIn, pricedOf, withPercent, withAmount, saleOf, sellOf, behindTabOf, restThen, isMode, modeOf, tenderOf, paymentIn, payOf, drawerOf}
 use Rattle.command.specs.Commands.{parsedOf}
 use Rattle.receipt.specs.Lines.{adjustFits}
 use Rattle.books.specs.declared.Books.{Books}
@@ -60,9 +60,6 @@ field-right NotOne p k = syntax
 signed-right : (x : Signed) (p : Parsed) → (x ≡ By (signedMinus x) (signedSize x) → Right p) → Right (endsOr (signedNumber x) p)
 signed-right (By minus n) p k = k refl
 signed-right Neither p k = syntax
-
-bare : (c : Command) (s : List ℕ) → Right (Read c) → Right (bareOf c s)
-bare c s r = either (eqb (length s) 0) (Read c) Syntax r syntax
 
 opens : (s : List ℕ) → Right (openOf s)
 opens s =
@@ -195,19 +192,9 @@ behind-tab-right (g ∷ s) =
     let group = fieldValue (groupOf g) in
     field-right (groupOf g) _ (λ e. sale-right group (group-small g group e) s)
 
+sell-right : (s : List ℕ) → Right (sellOf s)
+sell-right s = rest-right (restOf s) s behindTabOf behind-tab-right
+
 pub parsed-right : (code : ℕ) (s : List ℕ) → Right (parsedOf code s)
 parsed-right code s =
-    either (eqb code 38) _ _ (bare OpenText s (plain (λ books. refl) refl))
-    (either (eqb code 39) _ _ (bare CloseText s (plain (λ books. refl) refl))
-    (either (eqb code 42) _ _ (either (isText s) _ _ (plain (λ books. refl) refl) syntax)
-    (either (eqb code 48) _ _ (opens s)
-    (either (eqb code 49) _ _ (rest-right (restOf s) s behindTabOf behind-tab-right)
-    (either (eqb code 51) _ _ (either (eqb (length s) 2 && isFlag (getD s 0 0) && isFlag (getD s 1 0)) _ _ (plain (λ books. refl) refl) syntax)
-    (either (eqb code 53) _ _ (pay-right s)
-    (either (eqb code 56) _ _ (bare Close s (plain (λ books. refl) refl))
-    (either (eqb code 60) _ _ (bare Cancel s (plain (λ books. refl) refl))
-    (either (eqb code 65) _ _ (sums-right s)
-    (either (eqb code 69) _ _ (closing-right s)
-    (either (eqb code 70) _ _ (drawer-right s)
-    (either (eqb code 74) _ _ (bare Status s (plain (λ books. refl) refl))
-    (either (eqb code 97) _ _ (bare Rates s (plain (λ books. refl) refl)) no-kind)))))))))))))
+    search (either, plain, syntax, no-kind, opens, sell-right, pay-right, sums-right, closing-right, drawer-right) depth 20

@@ -39,22 +39,34 @@ pub fn view_of(command: Command) -> View
     match command {
         Command::OpenText => View::OpensText,
         Command::CloseText => View::ClosesText,
-        Command::PrintText => View::Asks { when: When::TextIsOpen, shown: Shown::Nothing },
+        Command::PrintText => View::Asks {
+            when: When::TextIsOpen,
+            shown: Shown::Nothing,
+        },
         Command::Open {
             op: _,
             password,
             till: _,
         } => View::Opens(password),
         Command::Sell(s) => View::Sells(s),
-        Command::Subtotal { print: _, show: _ } => View::Asks { when: When::FiscalIsOpen, shown: Shown::Subtotal },
+        Command::Subtotal { print: _, show: _ } => View::Asks {
+            when: When::FiscalIsOpen,
+            shown: Shown::Subtotal,
+        },
         Command::Pay(p) => View::Pays(p),
         Command::Close => View::Closes,
         Command::Cancel => View::Cancels,
         Command::Sums { taxes } => of_sums(taxes),
         Command::Closing { clears } => of_closing(clears),
         Command::Drawer(s) => of_service(s),
-        Command::Status => View::Asks { when: When::Always, shown: Shown::Status },
-        Command::Rates => View::Asks { when: When::Always, shown: Shown::Rates },
+        Command::Status => View::Asks {
+            when: When::Always,
+            shown: Shown::Status,
+        },
+        Command::Rates => View::Asks {
+            when: When::Always,
+            shown: Shown::Rates,
+        },
     }
 }
 
@@ -63,9 +75,15 @@ fn of_sums(taxes: bool) -> View
     ensures { λ r. ⌜ r ≡ viewOf (Sums taxes) ⌝ }
 {
     if taxes {
-        return View::Asks { when: When::Always, shown: Shown::Taxes };
+        return View::Asks {
+            when: When::Always,
+            shown: Shown::Taxes,
+        };
     }
-    View::Asks { when: When::Always, shown: Shown::DaySums }
+    View::Asks {
+        when: When::Always,
+        shown: Shown::DaySums,
+    }
 }
 
 // 69 closes the day, or only reports.
@@ -75,7 +93,10 @@ fn of_closing(clears: bool) -> View
     if clears {
         return View::Clears;
     }
-    View::Asks { when: When::NoneIsOpen, shown: Shown::Closure }
+    View::Asks {
+        when: When::NoneIsOpen,
+        shown: Shown::Closure,
+    }
 }
 
 // 70 puts in, takes out, or only reports.
@@ -83,7 +104,10 @@ fn of_service(s: Service) -> View
     ensures { λ r. ⌜ r ≡ viewOf (Drawer s) ⌝ }
 {
     match s {
-        Service::Report => View::Asks { when: When::NoneIsOpen, shown: Shown::InDrawer },
+        Service::Report => View::Asks {
+            when: When::NoneIsOpen,
+            shown: Shown::InDrawer,
+        },
         Service::In(n) => View::Puts(n),
         Service::Out(n) => View::Takes(n),
     }
