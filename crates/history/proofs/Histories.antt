@@ -1,5 +1,5 @@
 -- Cash, receipt, day and memory follow the whole history: the books agree with it after one command more.
-use mathlib.Core.Path.{_≡_, refl, sym, ap, _∙_}
+use mathlib.Core.Path.{_≡_, refl, sym, _∙_}
 use mathlib.Core.Bool.{Bool, cond}
 use mathlib.Core.List.{List, [], _∷_}
 use Prim.Native.Nat.{ℕ, zero, suc, _≤_, _<_}
@@ -10,7 +10,7 @@ use Rattle.kinds.specs.declared.Command.{Command}
 use Rattle.kinds.specs.declared.Mode.{Mode}
 use Rattle.kinds.specs.declared.Mode.the-variants.{N, C, D, B}
 use Rattle.books.specs.Books.{freshBooks}
-use Rattle.books.specs.Groups.{eight, at}
+use Rattle.books.specs.Groups.{at}
 use Rattle.books.specs.Registers.{place}
 use Rattle.books.specs.declared.Books.{Books}
 use Rattle.books.specs.declared.Counters.{Counters}

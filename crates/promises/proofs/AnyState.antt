@@ -1,5 +1,5 @@
 -- Demand 1 from any state: the reply is by the table, or the state is one that no history of fresh ends comes to, and then `Beyond` says it.
-use mathlib.Core.Path.{_≡_, refl, sym, ap, _∙_, subst}
+use mathlib.Core.Path.{_≡_, refl, sym, ap, subst}
 use mathlib.Core.Bool.{Bool, true, false, cond}
 use mathlib.Core.List.{List}
 use mathlib.Core.Logic.{_⊎_, inl, inr}
@@ -17,8 +17,8 @@ use Rattle.kinds.specs.declared.Command.{Command}
 use Rattle.kinds.specs.declared.Parsed.{Parsed}
 use Rattle.kinds.specs.declared.Parsed.the-variants.{Read, Syntax, Unknown}
 use Rattle.command.specs.Commands.{parsedOf}
-use Rattle.deeds.specs.Deeds.{refusedWith, kept, deedOf}
-use Rattle.deeds.specs.Holds.{holds}
+use Rattle.rules.specs.Views.{viewOf}
+use Rattle.deeds.specs.Deeds.{refusedWith, deedOf}
 use Rattle.deeds.specs.declared.Deed.{Deed}
 use Rattle.line.specs.Turns as line
 use Rattle.carrying.specs.Carrying.{deedFor, carry}
@@ -30,13 +30,9 @@ use Rattle.promises.specs.AtTill.{isFailed, fails, row-0-byte, row-0-ans
 use Rattle.promises.specs.AtTill as at-till-end
 use Rattle.promises.specs.Demand1.{Bench, Comes, atDevice, atTill, fromDevice, fromTill, Outcome, ByTheTable, at-device, at-till}
 use Rattle.promises.specs.Ends.{ofDevice, ofTill, outcomeOf, Beyond, unsound-books, more-tries}
-use Rattle.promises.proofs.Verdicts.{Right, is-read, parsed-right}
 use Rattle.promises.proofs.DeviceRows.{short7, again, order, ordered}
 use Rattle.promises.proofs.TillRows.{taking}
 use Rattle.promises.proofs.Demand1.{by-the-device}
-
-read-holds : {c : Command} → Right (Read c) → holds c ≡ true
-read-holds (is-read r) = r
 
 abbrev Says : Bench → Comes → Outcome → Type 0
 Says s c r = ByTheTable s c r ⊎ Beyond s c r

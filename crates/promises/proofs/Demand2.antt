@@ -37,7 +37,7 @@ use Rattle.promises.specs.Demand2.{LentByte, alwaysLent, turnBy, turnsOf
 use Rattle.promises.proofs.Through.{the-calls-are-the-recording}
 use Rattle.promises.proofs.Demand1.{deed-stays}
 use Rattle.promises.proofs.Joining.{any-history-reached, any-history-agrees, device-after-one, session-turns, cash-in-answer}
-use Rattle.promises.proofs.Verdicts.{Right, syntax, no-kind, is-read, parsed-right, right-priced}
+use Rattle.promises.proofs.Verdicts.{Right, syntax, no-kind, is-read, parsed-right}
 
 -- "built and read alike": the frame of whatever can be sent, read from any place, is heard as exactly that
 pub what-is-built-is-read : (k : Kind) (m : Message) → sendable k m ≡ true → (p : Place)
@@ -80,7 +80,7 @@ a-recording-is-its-turns bytes = session-turns freshDevice bytes
 -- cash, for all bytes that arrive at a fresh device, whatever is lent with each
 pub cash-is-put-in-less-taken-out : (arrived : List LentByte)
     → (booksAfter arrived .drawer .cash ≡ putIn (entriesOf arrived) - takenOut (entriesOf arrived)) × (takenOut (entriesOf arrived) ≤ putIn (entriesOf arrived))
-cash-is-put-in-less-taken-out arrived = (any-history-agrees arrived .cash, any-history-agrees arrived .covered)
+cash-is-put-in-less-taken-out arrived = (any-history-agrees arrived .drawer .cash, any-history-agrees arrived .drawer .covered)
 
 -- and it can be seen: the Cash field of every answer to a 70 that is done, read back as a number
 pub cash-is-seen : (arrived : List LentByte) (a : LentByte) → let t = turnBy (deviceAfter freshDevice arrived) a in
@@ -89,7 +89,7 @@ pub cash-is-seen : (arrived : List LentByte) (a : LentByte) → let t = turnBy (
 cash-is-seen arrived a m s one is70 zero =
     cash-in-answer (deviceAfter freshDevice arrived) (any-history-reached arrived) m s is70 a one zero
     ∙ ap (λ (z : State Store). z .store .books .drawer .cash) (sym (device-after-one freshDevice arrived a))
-    ∙ any-history-agrees (arrived ++ a ∷ []) .cash
+    ∙ any-history-agrees (arrived ++ a ∷ []) .drawer .cash
 
 -- and every other figure (PROTOCOL 8.3): the open receipt, its lines, whether a 53 was done and whether it is paid in full, day sums, registers, service sums,
 -- counters, closings and FM
@@ -119,6 +119,6 @@ pub rest-and-change-fit-too : (arrived : List LentByte) (code : ℕ) (content : 
 rest-and-change-fit-too arrived code content = go (parsedOf code content) (parsed-right code content)
   where
     go : (x : Parsed) → Right x → leftOf (deedFor (booksAfter arrived) x .shown) < 10 ^ 10
-    go (Read c) (is-read r) = rest-and-change-fit (booksAfter arrived) c (any-history-reached arrived) (right-priced c r)
+    go (Read c) (is-read r) = rest-and-change-fit (booksAfter arrived) c (any-history-reached arrived) r
     go Syntax syntax = omega arith
     go Unknown no-kind = omega arith

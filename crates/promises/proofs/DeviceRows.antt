@@ -13,11 +13,10 @@ use Rattle.kinds.specs.declared.Command as kinds
 use Rattle.kinds.specs.declared.Parsed.{Parsed}
 use Rattle.kinds.specs.declared.Parsed.the-variants.{Read, Syntax, Unknown}
 use Rattle.command.specs.Commands.{parsedOf}
-use Rattle.deeds.specs.Reasons.{three, four}
-use Rattle.deeds.specs.Effects.{effect, shows}
-use Rattle.deeds.specs.Deeds.{refusedWith, done, judged, kept, byReasons, deedOf}
+use Rattle.rules.specs.Rules.{three, four, effect, shows}
+use Rattle.rules.specs.Views.{viewOf}
+use Rattle.deeds.specs.Deeds.{refusedWith, done, deedOf}
 use Rattle.deeds.specs.declared.Deed.{Deed}
-use Rattle.deeds.proofs.Reasons.{judged-by-its-reasons}
 use Rattle.line.specs.Turns.{was, State, Carried, Turn, repeats, lastAnswer, onEvent, turn}
 use Rattle.carrying.specs.Carrying.{deedFor, carriedAs, carry}
 use Rattle.store.specs.Store.{Store}
@@ -26,9 +25,12 @@ use Rattle.promises.specs.AtDevice.{FromDevice, reads, NewFrame, NewComm
 use Rattle.promises.specs.Ends.{ofDevice}
 use Rattle.promises.proofs.Verdicts.{Right, syntax, no-kind, is-read, parsed-right}
 
--- what a whole frame asks of the books, by the reasons
+-- what a whole frame asks of the books, by the reasons for 3 and for 4
+abbrev byThese : Books → kinds.Command → Bool → Bool → Deed
+byThese b c for3 for4 = cond for3 (refusedWith 3 b) (cond for4 (refusedWith 4 b) (done (effect b c) (shows b c)))
+
 abbrev pub tableDeed : Books → Parsed → Deed
-tableDeed b (Read c) = byReasons b c
+tableDeed b (Read c) = byThese b c (three b c) (four b c)
 tableDeed b Syntax = refusedWith 1 b
 tableDeed b Unknown = refusedWith 2 b
 
@@ -51,7 +53,7 @@ module _ (s : State Store) where
   order next m d = ordered next m (carriedAs (s .store) (m .seq) (m .code) d)
 
   abbrev reasoned : kinds.Command → Bool → Bool → Deed
-  reasoned c for3 for4 = judged (s .store .books) for3 for4 (done (effect (s .store .books) c) (shows (s .store .books) c))
+  reasoned c for3 for4 = byThese (s .store .books) c for3 for4
 
   abbrev pub tableTurn : Lent → ℕ → Turn Store
   tableTurn lent byte = cond (enough lent) (turn tableCarry s byte) short7
@@ -131,7 +133,7 @@ carried-by : (b : Books) → sound b ≡ true → (p : Parsed) → Right p → d
 carried-by b e Syntax syntax = refl
 carried-by b e Unknown no-kind = refl
 carried-by b e (Read c) (is-read r) =
-    ap (λ z. cond z (kept b (deedOf b c)) (refusedWith 1 b)) r ∙ ap (λ z. cond z (deedOf b c) (refusedWith 4 b)) e ∙ judged-by-its-reasons b c r
+    ap (λ z. cond z (deedOf b (viewOf c)) (refusedWith 4 b)) e ∙ ap (λ z. cond z (refusedWith 1 b) (byThese b c (three b c) (four b c))) (r .one b)
 
 same-carry : (s : Store) → sound (s .books) ≡ true → (m : Message) → carry s m ≡ tableCarry s m
 same-carry s e m = ap (carriedAs s (m .seq) (m .code)) (carried-by (s .books) e (parsedOf (m .code) (m .content)) (parsed-right (m .code) (m .content)))

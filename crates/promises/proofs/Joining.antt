@@ -39,7 +39,7 @@ use Rattle.history.proofs.Reaching.{fresh-reached}
 use Rattle.promises.specs.Demand2.{LentByte, alwaysLent, turnBy, turnsOf, deviceAfter, allGiven, allCarried, dataIn, withRead, withTurn, toldBy, freshDevice, entriesOf, booksAfter, cashIn}
 use Rattle.promises.proofs.Demand1.{deed-stays}
 use Rattle.promises.proofs.DeviceRows.{again, short7}
-use Rattle.promises.proofs.Verdicts.{Right, syntax, no-kind, is-read, parsed-right, right-priced}
+use Rattle.promises.proofs.Verdicts.{Right, syntax, no-kind, is-read, parsed-right}
 
 -- the data stands in an answer's frame where it is read from
 module _ (content behind frame-end bcc-part : List ℕ) where
@@ -107,7 +107,7 @@ module _ (es : List Entry) (s : State Store) (r : Reached (s .store .books)) (h 
   read-agrees : (next : Place) (m : Message) (x : Parsed) → Right x → Agrees (withRead (orderAs s next m x) x es) (deedFor (s .store .books) x .books)
   read-agrees next m (Read c) (is-read k) =
       subst (λ e. Agrees (e ∷ es) (carriedOut (s .store .books) c .books)) (sym (told-as-done (s .store .books) (m .seq) (m .code) c (carriedOut (s .store .books) c)))
-      (agreement-stays es (s .store .books) c r (right-priced c k) h)
+      (agreement-stays es (s .store .books) c r k h)
   read-agrees next m Syntax syntax = h
   read-agrees next m Unknown no-kind = h
 

@@ -1,11 +1,11 @@
--- A command that was read holds numbers of its fields alone, so that the books ask for its reasons and nothing else.
+-- A command that was read is as data gives it: none of its numbers is 1, so that the books ask for its reasons for 3 and 4 alone.
 use mathlib.Core.Path.{_≡_, refl, sym, ap, _∙_}
-use mathlib.Core.Bool.{Bool, true, false, cond, _&&_, _||_}
+use mathlib.Core.Bool.{Bool, true, false, cond, not, _&&_, _||_}
 use mathlib.Core.List.{List, [], _∷_}
 use Prim.Native.Nat.{ℕ, _-_, _<_}
 use native.Mathlib.Omega.{arith}
 use lib.Dec.{eqb, leb, ltb}
-use lib.ListN.{length, drop, getD}
+use lib.ListN.{length, drop}
 use borrow.Author.Tests.{leb-true, le-leb, lt-ltb}
 use Rattle.wire.specs.Bytes.{within}
 use Rattle.wire.proofs.Suits.{both}
@@ -16,33 +16,37 @@ use Rattle.figures.specs.declared.Number.the-variants.{Is, NotOne}
 use Rattle.figures.specs.declared.Signed.{Signed}
 use Rattle.figures.specs.declared.Signed.the-variants.{By, Neither}
 use Rattle.figures.proofs.Bounds.{price-small, quantity-some, quantity-small, percent-small, signed-price-small}
-use Rattle.lines.specs.Texts.{isText, restOf}
+use Rattle.lines.specs.Texts.{restOf}
 use Rattle.lines.specs.declared.Found.{Found}
 use Rattle.lines.specs.declared.Found.the-variants.{At, NotThere}
 use Rattle.kinds.specs.Fields.{comma, endsOr}
-use Rattle.kinds.specs.Plain.{bareOf, openOf, isFlag, sumsOf, closingOf}
+use Rattle.kinds.specs.Plain.{openOf, sumsOf, closingOf}
 use Rattle.kinds.specs.declared.Adjust.{Adjust}
 use Rattle.kinds.specs.declared.Adjust.the-variants.{Nothing, PercentMore, PercentLess, AmountMore, AmountLess}
 use Rattle.kinds.specs.declared.Command.{Command}
-use Rattle.kinds.specs.declared.Command.the-variants.{OpenText, CloseText, PrintText, Open, Sell, Subtotal, Pay, Close, Cancel, Sums, Closing, Drawer, Status, Rates}
+use Rattle.kinds.specs.declared.Command.the-variants.{Drawer}
 use Rattle.kinds.specs.declared.Mode.{Mode}
 use Rattle.kinds.specs.declared.Mode.the-variants.{Cash}
 use Rattle.kinds.specs.declared.Parsed.{Parsed}
 use Rattle.kinds.specs.declared.Parsed.the-variants.{Read, Syntax, Unknown}
 use Rattle.kinds.specs.declared.Service.the-variants.{In, Out}
-use Rattle.kinds.specs.declared.Tender.{Tender}
-use Rattle.kinds.specs.declared.Tender.the-variants.{Rest, Amount}
-use Rattle.command.specs.Money.{star, semicolon, groupOf, quantityIn, pricedOf, withPercent, withAmount, saleOf, behindTabOf, restThen, isMode, modeOf, tenderOf, paymentIn, payOf, drawerOf}
+use Rattle.command.specs.Money.{star, semicolon, groupOf, quantityIn, pricedOf, withPercent, withAmount, saleOf, sellOf, behindTabOf, restThen, isMode, modeOf, tenderOf, paymentIn, payOf, drawerOf}
 use Rattle.command.specs.Commands.{parsedOf}
 use Rattle.receipt.specs.Lines.{adjustFits}
-use Rattle.deeds.specs.Holds.{tenderHolds, serviceHolds, holds}
-use Rattle.history.specs.Digits.{isPrice, priced}
+use Rattle.books.specs.declared.Books.{Books}
+use Rattle.rules.specs.Rules.{ruleOf}
+use Rattle.rules.specs.Views.{viewOf}
+use Rattle.history.specs.Digits.{leftOf, Given}
+use Rattle.history.specs.Entries.{ofAsked}
 
--- what was read: syntax, no kind, or a command that holds its numbers
+-- what was read: syntax, no kind, or such a command
 pub data Right : Parsed → Type 0 where
   syntax : Right Syntax
   no-kind : Right Unknown
-  is-read : {c : Command} → holds c ≡ true → Right (Read c)
+  is-read : {c : Command} → Given (viewOf c) → Right (Read c)
+
+plain : {c : Command} → ((b : Books) → ruleOf b (viewOf c) .one ≡ false) → ofAsked 0 leftOf (viewOf c) ≡ 0 → Right (Read c)
+plain e f = is-read (record { one = e; rest = f })
 
 either : (x : Bool) (p q : Parsed) → Right p → Right q → Right (cond x p q)
 either true p q l r = l
@@ -57,38 +61,35 @@ signed-right : (x : Signed) (p : Parsed) → (x ≡ By (signedMinus x) (signedSi
 signed-right (By minus n) p k = k refl
 signed-right Neither p k = syntax
 
-bare : (c : Command) (s : List ℕ) → holds c ≡ true → Right (bareOf c s)
-bare c s r = either (eqb (length s) 0) (Read c) Syntax (is-read r) syntax
-
 opens : (s : List ℕ) → Right (openOf s)
 opens s =
     either (has comma s && has comma (past comma s)) _ Syntax
     (field-right (fieldOf 1 (upTo comma s)) _ (λ eo.
     field-right (fieldOf 6 (upTo comma (past comma s))) _ (λ ep.
     field-right (fieldOf 5 (past comma (past comma s))) _ (λ et.
-    either (within 1 8 (fieldValue (fieldOf 1 (upTo comma s))) && leb 4 (length (upTo comma (past comma s)))) _ Syntax (is-read refl) syntax))))
+    either (within 1 8 (fieldValue (fieldOf 1 (upTo comma s))) && leb 4 (length (upTo comma (past comma s)))) _ Syntax (plain (λ books. refl) refl) syntax))))
     syntax
 
 sums-right : (s : List ℕ) → Right (sumsOf s)
-sums-right [] = is-read refl
-sums-right (b ∷ []) = either (eqb b 0x30) _ _ (is-read refl) (either (eqb b 0x31) _ _ (is-read refl) syntax)
+sums-right [] = plain (λ books. refl) refl
+sums-right (b ∷ []) = either (eqb b 0x30) _ _ (plain (λ books. refl) refl) (either (eqb b 0x31) _ _ (plain (λ books. refl) refl) syntax)
 sums-right (a ∷ b ∷ s) = syntax
 
 closing-right : (s : List ℕ) → Right (closingOf s)
 closing-right [] = syntax
-closing-right (b ∷ []) = either (eqb b 0x30) _ _ (is-read refl) (either (eqb b 0x32) _ _ (is-read refl) syntax)
+closing-right (b ∷ []) = either (eqb b 0x30) _ _ (plain (λ books. refl) refl) (either (eqb b 0x32) _ _ (plain (λ books. refl) refl) syntax)
 closing-right (a ∷ b ∷ s) = syntax
 
 drawer-right : (s : List ℕ) → Right (drawerOf s)
-drawer-right [] = is-read refl
+drawer-right [] = plain (λ books. refl) refl
 drawer-right (b ∷ s) =
     let minus = signedMinus (signedPriceOf (b ∷ s)) in
     let n = signedSize (signedPriceOf (b ∷ s)) in
-    signed-right (signedPriceOf (b ∷ s)) _ (λ e. is-read (go minus n (lt-ltb n 10000000000 (signed-price-small (b ∷ s) minus n e))))
+    signed-right (signedPriceOf (b ∷ s)) _ (λ e. go minus n (lt-ltb n 10000000000 (signed-price-small (b ∷ s) minus n e)))
   where
-    go : (minus : Bool) (n : ℕ) → ltb n 10000000000 ≡ true → serviceHolds (cond minus (Out n) (In n)) ≡ true
-    go true n e = e
-    go false n e = e
+    go : (minus : Bool) (n : ℕ) → ltb n 10000000000 ≡ true → Right (Read (Drawer (cond minus (Out n) (In n))))
+    go true n e = plain (λ books. ap not e) refl
+    go false n e = plain (λ books. ap not e) refl
 
 rest-right : (f : Found) (s : List ℕ) (next : List ℕ → Parsed) → ((r : List ℕ) → Right (next r)) → Right (restThen f s next)
 rest-right (At n) s next k = k (drop n s)
@@ -107,19 +108,19 @@ above-zero (Is m) n e = go (ltb 0 m) refl e
 above-zero NotOne n e = let z : _≡_ {A = ℕ} 0 1 = cc in absurd (omega arith)
 
 tender-right : (mode : Mode) (s : List ℕ) → Right (tenderOf mode s)
-tender-right mode [] = is-read refl
+tender-right mode [] = plain (λ books. refl) refl
 tender-right mode (b ∷ s) =
     let n = fieldValue (aboveZero (priceOf (b ∷ s))) in
     field-right (aboveZero (priceOf (b ∷ s))) _ (λ e.
     let more = above-zero (priceOf (b ∷ s)) n e in
-    is-read (and-true (more .1) (lt-ltb n 10000000000 (price-small (b ∷ s) n (more .0)))))
+    plain (λ books. ap not (and-true (more .1) (lt-ltb n 10000000000 (price-small (b ∷ s) n (more .0))))) refl)
 
 payment-right : (s : List ℕ) → Right (paymentIn s)
-payment-right [] = is-read refl
+payment-right [] = plain (λ books. refl) refl
 payment-right (b ∷ s) = either (isMode b) _ _ (tender-right (modeOf b) s) (tender-right Cash (b ∷ s))
 
 pay-right : (s : List ℕ) → Right (payOf s)
-pay-right [] = is-read refl
+pay-right [] = plain (λ books. refl) refl
 pay-right (b ∷ s) = rest-right (restOf (b ∷ s)) (b ∷ s) paymentIn payment-right
 
 -- 49: group, price, quantity and what follows
@@ -145,14 +146,16 @@ priced-right group minus s a small fit =
     field-right (priceOf (upTo star s)) _ (λ ep.
     field-right (quantityIn s) _ (λ eq.
     let some = quantity-right s quantity eq in
-    is-read
+    plain
+    (λ books. ap not
     (and-true
     (and-true
     (and-true
     (and-true (lt-ltb group 8 small) (lt-ltb price 10000000000 (price-small (upTo star s) price ep)))
     (some .0))
     (some .1))
-    fit)))
+    fit))
+    refl))
 
 -- what follows the line, less or more
 fits-either : (minus : Bool) (less more : Adjust) → adjustFits false less ≡ true → adjustFits false more ≡ true → adjustFits false (cond minus less more) ≡ true
@@ -189,40 +192,9 @@ behind-tab-right (g ∷ s) =
     let group = fieldValue (groupOf g) in
     field-right (groupOf g) _ (λ e. sale-right group (group-small g group e) s)
 
+sell-right : (s : List ℕ) → Right (sellOf s)
+sell-right s = rest-right (restOf s) s behindTabOf behind-tab-right
+
 pub parsed-right : (code : ℕ) (s : List ℕ) → Right (parsedOf code s)
 parsed-right code s =
-    either (eqb code 38) _ _ (bare OpenText s refl)
-    (either (eqb code 39) _ _ (bare CloseText s refl)
-    (either (eqb code 42) _ _ (either (isText s) _ _ (is-read refl) syntax)
-    (either (eqb code 48) _ _ (opens s)
-    (either (eqb code 49) _ _ (rest-right (restOf s) s behindTabOf behind-tab-right)
-    (either (eqb code 51) _ _ (either (eqb (length s) 2 && isFlag (getD s 0 0) && isFlag (getD s 1 0)) _ _ (is-read refl) syntax)
-    (either (eqb code 53) _ _ (pay-right s)
-    (either (eqb code 56) _ _ (bare Close s refl)
-    (either (eqb code 60) _ _ (bare Cancel s refl)
-    (either (eqb code 65) _ _ (sums-right s)
-    (either (eqb code 69) _ _ (closing-right s)
-    (either (eqb code 70) _ _ (drawer-right s)
-    (either (eqb code 74) _ _ (bare Status s refl)
-    (either (eqb code 97) _ _ (bare Rates s refl) no-kind)))))))))))))
-
--- so the amount given in a 53 is a PRICE
-tender-priced : (t : Tender) → tenderHolds t ≡ true → isPrice t ≡ true
-tender-priced Rest e = refl
-tender-priced (Amount n) e = both (ltb 0 n) (ltb n 10000000000) e .1
-
-pub right-priced : (c : Command) → holds c ≡ true → priced c ≡ true
-right-priced OpenText r = refl
-right-priced CloseText r = refl
-right-priced PrintText r = refl
-right-priced (Open op p till) r = refl
-right-priced (Sell s) r = refl
-right-priced (Subtotal print show) r = refl
-right-priced (Pay p) r = tender-priced (p .tender) r
-right-priced Close r = refl
-right-priced Cancel r = refl
-right-priced (Sums taxes) r = refl
-right-priced (Closing clear) r = refl
-right-priced (Drawer s) r = refl
-right-priced Status r = refl
-right-priced Rates r = refl
+    search (either, plain, syntax, no-kind, opens, sell-right, pay-right, sums-right, closing-right, drawer-right) depth 20

@@ -14,8 +14,7 @@ use Rattle.answers.specs.Status.{receipts, memories}
 use Rattle.kinds.specs.declared.Command as kinds
 use Rattle.kinds.specs.declared.Parsed.the-variants as parsed
 use Rattle.command.specs.Commands.{parsedOf}
-use Rattle.deeds.specs.Reasons.{three, four}
-use Rattle.deeds.specs.Effects.{effect, shows}
+use Rattle.rules.specs.Rules.{three, four, effect, shows}
 use Rattle.line.specs.Turns.{was, State, repeats, lastAnswer}
 use Rattle.store.specs.Store.{Store}
 use Rattle.device.specs.Device.{Lent, enough}
@@ -62,7 +61,7 @@ pub record NewCommand (s : State Store) (lent : Lent) (byte : ℕ) (m : Message)
 abbrev pub answerWith : Message → List ℕ → (first second : ℕ) → Books → List ℕ
 answerWith m content first second b =
     frame Answer
-    (answerOf (m .seq) (m .code) content (first ∷ second ∷ receipts (b .opened) ∷ 0x80 ∷ memories (b .memory .closings) ∷ 0x9A ∷ []))
+    (answerOf (m .seq) (m .code) content (first ∷ second ∷ receipts (b .opened) ∷ 0x80 ∷ memories b ∷ 0x9A ∷ []))
 
 -- PROTOCOL 5.1: of a command done: what it shows, after its effect
 abbrev pub doneWith : Books → Message → kinds.Command → List ℕ

@@ -9,7 +9,7 @@ use Rattle.books.specs.Books.{textOpen, anyOpen, withReceipt, withDrawer}
 use Rattle.books.specs.Groups.{at}
 use Rattle.books.specs.Rates.{rateIn, isEnabled}
 use Rattle.books.specs.Registers.{registerOf}
-use Rattle.books.specs.Sound.{inTwelve}
+use Rattle.books.specs.Sound.{inTwelve, mostReceipts}
 use Rattle.books.specs.declared.Books.{Books}
 use Rattle.books.specs.declared.Opened.the-variants as opened
 use Rattle.books.specs.declared.Shown.{Shown}
@@ -35,7 +35,7 @@ ruleOf b (Opens p) =
     record {
       one = false;
       three = not (isRight p) || anyOpen (b .opened) || manyOpened b || full b;
-      four = leb 9999 (b .counters .fiscal);
+      four = leb mostReceipts (b .counters .fiscal);
       after = newReceipt b;
       shows = shown.AllAndFiscal;
     }

@@ -4,6 +4,7 @@ use books::Books;
 use books::parts;
 use books::rates;
 use books::rates::Rate;
+use books::sound::MOST_RECEIPTS;
 use kinds::Password;
 use kinds::Tender;
 ghost use mathlib.Core.Path.{_≡_};
@@ -13,9 +14,6 @@ ghost use Rattle.books.specs.Groups.{at};
 ghost use Rattle.books.specs.Rates.{isEnabled, rateIn};
 ghost use Rattle.books.specs.Sound.{inTwelve};
 ghost use Rattle.rules.specs.Reasons.{isPrice, tenderHolds, isRight, full, manyOpened, unmet};
-
-// All at its end: no receipt of either kind is opened any more until the day is closed.
-pub const MOST_RECEIPTS: u64 = 9999;
 
 // One reason or the other.
 pub fn either(a: bool, b: bool) -> bool
@@ -67,7 +65,7 @@ pub fn is_full(books: Books) -> bool
     rates::capacity(books) <= memory.closings
 }
 
-// Whether the day takes no receipt more.
+// Whether All is at its end: no receipt of either kind is opened until the day is closed.
 pub fn are_many(books: Books) -> bool
     ensures { λ r. ⌜ r ≡ manyOpened books ⌝ }
 {
