@@ -68,7 +68,7 @@ fn deed_for(books: Books, parsed: Parsed) -> Deed
     ensures { λ r. ⌜ r ≡ deedFor books parsed ⌝ }
 {
     match parsed {
-        Parsed::Read(c) => deeds::carry_out(books, c),
+        Parsed::Read(c) => acts::carry_out(books, c),
         Parsed::Syntax => deeds::refuse(1, books),
         Parsed::Unknown => deeds::refuse(2, books),
     }

@@ -111,15 +111,6 @@ fn gave(device: Device, number: u64, count: usize) -> Given
     }
 }
 
-fn least(a: usize, b: usize) -> usize
-    ensures { λ r. ⌜ r ≡ min a b ⌝ }
-{
-    if a < b {
-        return a;
-    }
-    b
-}
-
 // The last answer once more, byte for byte.
 fn again(previous: Previous, last: &[u8], buf: &mut [u8]) -> usize
     ensures { λ r. ⌜ r ≡ length (lastAnswer (beforeOf previous (now (last .entry)))) ⌝ }
@@ -132,7 +123,7 @@ fn again(previous: Previous, last: &[u8], buf: &mut [u8]) -> usize
             code: _,
             count,
         } => {
-            let n = least(count, last.len());
+            let n = basics::least_size(count, last.len());
             text::put_bytes(buf, 0, &last[0..n]);
             n
         }
@@ -153,7 +144,7 @@ fn order(
     ensures { λ r. ⌜ afterOf r (now (frame .entry)) (now (last .exit)) (now (buf .exit)) ≡ orders seq code (carry (record { books = device .books }) (commandOf seq code (take n (drop 3 (now (frame .entry)))))) (record { device = device; frame = now (frame .entry); last = now (last .entry) }) (record { buffer = now (buf .entry) }) ⌝ }
     ensures { λ r. ⌜ r .count ≤ 217 ⌝ }
 {
-    let end = least(n, 253) + 3;
+    let end = basics::least_size(n, 253) + 3;
     let books = device.books;
     let work = carrying::carry_out(books, seq, code, &frame[3..end], buf);
     let count = work.count;

@@ -109,7 +109,7 @@ module _ (m : device.Machine) (ok : DeviceOk m) where
         by-event =
             subst (λ z. ByTheTable bench (atDevice lent x) (fromDevice (ofDevice lent (turned z)))) is
             (subst (λ z. ByTheTable bench (atDevice lent x) (fromDevice (ofDevice lent (cond z (line.turn carry here x) (short7 here))))) room
-            (by-the-device bench (ok .reached .fits) lent x))
+            (by-the-device bench lent x))
 
         result : DeviceResult (after e) (ofDevice lent (turned e))
         result = record { number = refl; count = refl; bytes = front-stands (lent .buffer) (turned e .gives) (omega (arith, few, leb-true 217 (length (lent .buffer)) room)); lent = refl; state = back }

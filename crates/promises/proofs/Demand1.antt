@@ -10,7 +10,6 @@ use borrow.Author.Tests.{ltb-true}
 use Rattle.wire.specs.Frame.{commandOf, sendable}
 use Rattle.wire.specs.declared.Kind.the-variants.{Command}
 use Rattle.reader.specs.Reading.{Place, Event, nothing, brokenFrame, heard, read}
-use Rattle.books.specs.Sound.{sound}
 use Rattle.books.specs.declared.Books.{Books}
 use Rattle.kinds.specs.declared.Parsed.{Parsed}
 use Rattle.kinds.specs.declared.Parsed.the-variants.{Read, Syntax, Unknown}
@@ -57,11 +56,11 @@ only-these s cs rs (then {c = c} {r = r} {cs = later} {rs = rest} b all) =
 pub the-replies-are-the-only-ones : (s : Bench) (cs : List Comes) (rs others : List Outcome) → AllByTheTable s cs rs → AllByTheTable s cs others → rs ≡ others
 the-replies-are-the-only-ones s cs rs others a b = only-these s cs rs a ∙ sym (only-these s cs others b)
 
--- existence: at the device where its books are sound, at the till end where at most five tries were made
-pub by-the-device : (s : Bench) → sound (s .device .store .books) ≡ true → (lent : Lent) (byte : ℕ) → ByTheTable s (atDevice lent byte) (outcomeOf s (atDevice lent byte))
-by-the-device s e lent byte =
+-- existence: at the device in any state, at the till end where at most five tries were made
+pub by-the-device : (s : Bench) (lent : Lent) (byte : ℕ) → ByTheTable s (atDevice lent byte) (outcomeOf s (atDevice lent byte))
+by-the-device s lent byte =
     at-device
-    (subst (λ t. ByDevice (s .device) lent byte (ofDevice lent t)) (sym (device-rows.as-the-table (s .device) e lent byte)) (device-rows.has-its-row (s .device) lent byte))
+    (subst (λ t. ByDevice (s .device) lent byte (ofDevice lent t)) (sym (device-rows.as-the-table (s .device) lent byte)) (device-rows.has-its-row (s .device) lent byte))
 
 pub by-the-till-end : (s : Bench) → till-rows.triesOf (s .till .pending) ≤ 5 → (buffer : List ℕ) (h : till.Happening)
     → ByTheTable s (atTill buffer h) (outcomeOf s (atTill buffer h))
@@ -137,7 +136,7 @@ proper-stays s p (atDevice lent byte) = record { books = turn-stays lent (s .dev
 proper-stays s p (atTill buffer h) = record { books = p .books; tries = tries-stay (length buffer) (s .till) h (p .tries) }
 
 by-both : (s : Bench) → Proper s → (c : Comes) → ByTheTable s c (outcomeOf s c)
-by-both s p (atDevice lent byte) = by-the-device s (p .books .fits) lent byte
+by-both s p (atDevice lent byte) = by-the-device s lent byte
 by-both s p (atTill buffer h) = by-the-till-end s (p .tries) buffer h
 
 from-proper : (s : Bench) → Proper s → (cs : List Comes) → AllByTheTable s cs (outcomesOf s cs)

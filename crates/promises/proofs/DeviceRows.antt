@@ -1,5 +1,5 @@
 -- Demand 1 at the device: a row of the table for every byte, and no other reply by the table. `tableTurn` is what the rows say, as a function; the device's own
--- turn is the same where its books are sound.
+-- turn is the same.
 use mathlib.Core.Path.{_≡_, refl, sym, ap, _∙_}
 use mathlib.Core.Bool.{Bool, true, false, cond}
 use mathlib.Core.List.{[], _∷_, _++_}
@@ -7,15 +7,13 @@ use Prim.Native.Nat.{ℕ}
 use Rattle.wire.specs.Frame.{Message}
 use Rattle.wire.specs.declared.Kind.the-variants.{Command}
 use Rattle.reader.specs.Reading.{Place, Event, nothing, brokenFrame, heard, read}
-use Rattle.books.specs.Sound.{sound}
 use Rattle.books.specs.declared.Books.{Books}
 use Rattle.kinds.specs.declared.Command as kinds
 use Rattle.kinds.specs.declared.Parsed.{Parsed}
 use Rattle.kinds.specs.declared.Parsed.the-variants.{Read, Syntax, Unknown}
 use Rattle.command.specs.Commands.{parsedOf}
 use Rattle.rules.specs.Rules.{three, four, effect, shows}
-use Rattle.rules.specs.Views.{viewOf}
-use Rattle.deeds.specs.Deeds.{refusedWith, done, deedOf}
+use Rattle.deeds.specs.Deeds.{refusedWith, done}
 use Rattle.deeds.specs.declared.Deed.{Deed}
 use Rattle.line.specs.Turns.{was, State, Carried, Turn, repeats, lastAnswer, onEvent, turn}
 use Rattle.carrying.specs.Carrying.{deedFor, carriedAs, carry}
@@ -128,21 +126,20 @@ module _ (s : State Store) where
         go true e = by-event e (reads s byte .event) refl
         go false e = row-7 e
 
--- the device's own turn, where its books are sound
-carried-by : (b : Books) → sound b ≡ true → (p : Parsed) → Right p → deedFor b p ≡ tableDeed b p
-carried-by b e Syntax syntax = refl
-carried-by b e Unknown no-kind = refl
-carried-by b e (Read c) (is-read r) =
-    ap (λ z. cond z (deedOf b (viewOf c)) (refusedWith 4 b)) e ∙ ap (λ z. cond z (refusedWith 1 b) (byThese b c (three b c) (four b c))) (r .one b)
+-- the device's own turn is the same
+carried-by : (b : Books) (p : Parsed) → Right p → deedFor b p ≡ tableDeed b p
+carried-by b Syntax syntax = refl
+carried-by b Unknown no-kind = refl
+carried-by b (Read c) (is-read r) = ap (λ z. cond z (refusedWith 1 b) (byThese b c (three b c) (four b c))) (r .one b)
 
-same-carry : (s : Store) → sound (s .books) ≡ true → (m : Message) → carry s m ≡ tableCarry s m
-same-carry s e m = ap (carriedAs s (m .seq) (m .code)) (carried-by (s .books) e (parsedOf (m .code) (m .content)) (parsed-right (m .code) (m .content)))
+same-carry : (s : Store) (m : Message) → carry s m ≡ tableCarry s m
+same-carry s m = ap (carriedAs s (m .seq) (m .code)) (carried-by (s .books) (parsedOf (m .code) (m .content)) (parsed-right (m .code) (m .content)))
 
-module _ (s : State Store) (e : sound (s .store .books) ≡ true) where
+module _ (s : State Store) where
   same-event : (next : Place) (x : Event) → onEvent carry s next x ≡ onEvent tableCarry s next x
   same-event next nothing = refl
   same-event next brokenFrame = refl
-  same-event next (heard m) = ap (λ k. cond (repeats (s .before) m) (again s next) (ordered s next m k)) (same-carry (s .store) e m)
+  same-event next (heard m) = ap (λ k. cond (repeats (s .before) m) (again s next) (ordered s next m k)) (same-carry (s .store) m)
 
   pub as-the-table : (lent : Lent) (byte : ℕ) → lentTurn lent s byte ≡ tableTurn s lent byte
   as-the-table lent byte = ap (λ z. cond (enough lent) z (short7 s)) (same-event (read Command (s .place) byte .place) (read Command (s .place) byte .event))

@@ -1,19 +1,16 @@
 -- The two ends as defined in `line`, `device` and `till`, each with a lent buffer: what the code promises of one event, read as a reply.
 use Prim.Native.Nat.{ℕ, _≤_, _<_}
 use mathlib.Core.Path.{_≡_}
-use mathlib.Core.Bool.{true, false}
+use mathlib.Core.Bool.{true}
 use mathlib.Core.List.{List, [], _∷_}
 use lib.ListN.{length}
-use Rattle.wire.specs.Frame.{Message}
-use Rattle.books.specs.Sound.{sound}
 use Rattle.store.specs.Store.{Store}
-use Rattle.kinds.specs.declared.Command.{Command}
 use Rattle.line.specs.Turns as line
 use Rattle.device.specs.Device.{Lent, lentTurn}
 use Rattle.till.specs.Turns as till
 use Rattle.till.specs.Words.{numberOf, countOf}
 use Rattle.till.specs.declared.Word.the-variants.{Unfinished}
-use Rattle.promises.specs.AtDevice.{FromDevice, tells, remembers, NewCommand, answerWith}
+use Rattle.promises.specs.AtDevice.{FromDevice, tells}
 use Rattle.promises.specs.AtTill.{FromTill, replies, fails, noneWaits}
 use Rattle.promises.specs.Demand1.{Bench, Comes, atDevice, atTill, Outcome, fromDevice, fromTill, benchAfter}
 
@@ -36,14 +33,8 @@ abbrev pub behindAll : Bench → List Comes → Bench
 behindAll s [] = s
 behindAll s (c ∷ cs) = behindAll (benchAfter s (outcomeOf s c)) cs
 
--- PROTOCOL 8.7: what no history of fresh ends comes to, where the reply is not the table's: books that are not sound refuse with 4 whatever they are asked,
--- and stay; tries above five count as the fifth
+-- PROTOCOL 8.7: what no history of fresh ends comes to, where the reply is not the table's: tries above five count as the fifth
 pub data Beyond (s : Bench) : Comes → Outcome → Type 0 where
-  unsound-books : {lent : Lent} {byte : ℕ} (m : Message) (c : Command) → NewCommand (s .device) lent byte m c → sound (s .device .store .books) ≡ false
-      → Beyond s (atDevice lent byte)
-      (fromDevice
-      (tells 4 (answerWith m [] 0xA0 0x83 (s .device .store .books)) lent
-      (remembers (s .device) byte m (answerWith m [] 0xA0 0x83 (s .device .store .books)) (s .device .store))))
   more-tries : {buffer : List ℕ} {h : till.Happening} (seq code : ℕ) (bytes : List ℕ) (tries : ℕ) (ear : till.Ear) → 210 ≤ length buffer
       → s .till .pending ≡ till.waits seq code bytes tries ear → fails seq code ear h ≡ true → 5 < tries
       → Beyond s (atTill buffer h) (fromTill (replies 9 (Unfinished tries) tries [] buffer (noneWaits (s .till))))

@@ -75,20 +75,11 @@ fn list_call(call: Call, frame: &[u8], orders: &mut [u8], at: usize) -> usize
         Call::Nak => at,
         Call::Again => at,
         Call::Order { seq, code, count } => {
-            let n = least(count, 253);
+            let n = basics::least_size(count, 253);
             let end = n + 3;
             let head = [seq, code, (n % 256) as u8];
             let behind = append(orders, at, &head);
             append(orders, behind, &frame[3..end])
         }
     }
-}
-
-fn least(a: usize, b: usize) -> usize
-    ensures { λ r. ⌜ r ≡ min a b ⌝ }
-{
-    if a < b {
-        return a;
-    }
-    b
 }

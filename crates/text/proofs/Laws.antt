@@ -1,7 +1,8 @@
 -- Laws of putting bytes into a buffer, and of digit fields.
 use mathlib.Core.Path.{_≡_, refl, sym, ap, _∙_}
 use mathlib.Core.List.{List, [], _∷_, _++_, append-nil}
-use Prim.Native.Nat.{ℕ, zero, suc, _+_, _-_, _*_, _/_, _%_, _^_, _≤_, _<_}
+use Prim.Native.Nat.{ℕ, zero, suc, _+_, _-_, _*_, _/_, _%_, _^_, _≤_, _<_, min}
+use native.Mathlib.Decide.{decLe}
 use native.Mathlib.Nat.{add-zero, mod-one, pow-suc, one-le-pow}
 use native.Mathlib.Numerals.{add-one}
 use native.Mathlib.Omega.{arith}
@@ -77,6 +78,14 @@ module _ {A : Type 0} where
   -- and when all are put, nothing is left to put
   pub copy-done : (l src : List A) (i : ℕ) → length src ≤ i → sets l i (drop i src) ≡ l
   copy-done l src i h = rw (drop-of-length-le src h)
+
+  -- nor where the buffer ends
+  pub copied : (l src : List A) (i : ℕ) → min (length l) (length src) ≤ i → sets l i (drop i src) ≡ l
+  copied l src i h = go (decLe (length src) i)
+    where
+      go : Dec (length src ≤ i) → sets l i (drop i src) ≡ l
+      go (yes k) = copy-done l src i k
+      go (no k) = sets-out l i (drop i src) (omega arith)
 
 -- a field has exactly its width
 pub length-digits : (width n : ℕ) → length (digits width n) ≡ width

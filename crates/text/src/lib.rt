@@ -52,9 +52,10 @@ pub fn put_bytes(buf: &mut [u8], at: usize, src: &[u8])
 fn copy(part: &mut [u8], src: &[u8])
     ensures { λ r. ⌜ now (part .exit) ≡ sets (now (part .entry)) 0 (now (src .entry)) ⌝ }
 {
+    let n = basics::least_size(part.len(), src.len());
     let mut i = 0;
-    while i < src.len() {
-        put_byte(part, i, src[i]);
+    while i < n {
+        part[i] = src[i];
         i += 1;
     }
 }

@@ -10,8 +10,8 @@ enum-told c = search needs
 enum-known-previous : tie.Need-enum-known-previous
 enum-known-previous c = search needs
 
-least-requires : tie.Need-least-requires
-least-requires c κs = search needs
+least-size-requires : tie.Need-least-size-requires
+least-size-requires c κs = search needs
 
 sub-put-bytes : tie.Need-sub-put-bytes
 sub-put-bytes c = search needs
@@ -34,8 +34,8 @@ same-length c = search needs
 returns-2 : tie.Need-returns-2
 returns-2 c =
     let a = c .before .before .before .before .before .before .before .before .before .before .before .args in (
-      again-size (a .previous) (now (a .last)) (now (a .buf)) _ _ _ (c .before .before .before .before .before .least .result) (c .before .before .before .before .before .before .before .previous .given .1) (c .before .before .before .before .before .least .ensures),
-      again-bytes (a .previous) (now (a .last)) (now (a .buf)) _ _ _ (c .before .before .before .before .before .least .result) (c .before .before .before .before .before .before .before .previous .given .1) (c .before .before .before .before .before .least .ensures) _ (c .before .before .put-bytes .ensures),
+      again-size (a .previous) (now (a .last)) (now (a .buf)) _ _ _ (c .before .before .before .before .before .least-size .result) (c .before .before .before .before .before .before .before .previous .given .1) (c .before .before .before .before .before .least-size .ensures),
+      again-bytes (a .previous) (now (a .last)) (now (a .buf)) _ _ _ (c .before .before .before .before .before .least-size .result) (c .before .before .before .before .before .before .before .previous .given .1) (c .before .before .before .before .before .least-size .ensures) _ (c .before .before .put-bytes .ensures),
     )
 
 pub again-spec : {M : Type 1} → statement M
@@ -44,7 +44,7 @@ again-spec =
     (tie.spec
     enum-told
     enum-known-previous
-    least-requires
+    least-size-requires
     sub-put-bytes
     part-put-bytes-start
     part-put-bytes-end

@@ -6,8 +6,8 @@ use borrow.Author.Needs.{needs}
 use Rattle.device.proofs.order.Statement.{statement}
 use Rattle.device.proofs.order.Tie as tie
 
-least-requires : tie.Need-least-requires
-least-requires c κs = search needs
+least-size-requires : tie.Need-least-size-requires
+least-size-requires c κs = search needs
 
 add-end : tie.Need-add-end
 add-end c = search needs
@@ -52,7 +52,7 @@ returns c =
     let start = c .before .before .before .before .before .before .before .before .before .before .before .before .before .before .before .before .before .before .before .before in
     let a = start .args in
     let work = c .before .before .before .before .before .before .before .before .before .before .before .before .carry-out in
-    let cut = c .before .before .before .before .before .before .before .before .before .before .before .before .before .before .before .before .least in
+    let cut = c .before .before .before .before .before .before .before .before .before .before .before .before .before .before .before .before .least-size in
     let kept = c .before .before .before .before .before .put-bytes in (
       order-is (a .device) (a .seq) (a .code) (a .n) (cut .result) (now (a .frame)) (now (a .last)) (now (a .buf)) (work .result) _ _ (start .pre .frames) (start .pre .room) (cut .ensures)
           (work .ensures .0) (work .ensures .1) (kept .ensures) (c .gave .result) (c .gave .ensures),
@@ -63,7 +63,7 @@ pub order-spec : {M : Type 1} → statement M
 order-spec =
     tie.close
     (tie.spec
-    least-requires
+    least-size-requires
     add-end
     sub-carry-out
     part-carry-out-start

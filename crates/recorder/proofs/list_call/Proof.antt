@@ -19,8 +19,8 @@ enum-told-3 c = search needs
 enum-known-call : tie.Need-enum-known-call
 enum-known-call c = search needs
 
-least-requires : tie.Need-least-requires
-least-requires c κs = search needs
+least-size-requires : tie.Need-least-size-requires
+least-size-requires c κs = search needs
 
 add-end : tie.Need-add-end
 add-end c = search needs
@@ -61,7 +61,7 @@ same-length c = search needs
 returns-4 : tie.Need-returns-4
 returns-4 c =
     let a = c .before .before .before .before .before .before .before .before .before .before .before .before .before .before .before .before .args in
-    list-order (a .call) (now (a .frame)) (now (a .orders)) (a .at) _ _ _ (c .before .before .before .before .before .before .before .before .before .before .least .result) (c .before .before .before .before .before .before .before .append .result) (c .before .before .append2 .result) _ _ (c .before .before .before .before .before .before .before .before .before .before .before .before .call .given .1) (c .before .before .before .before .before .before .before .before .before .before .before .before .before .before .before .before .pre .0) (c .before .before .before .before .before .before .before .before .before .before .least .ensures) (c .before .before .before .before .before .before .before .append .ensures .0) (c .before .before .before .before .before .before .before .append .ensures .1) (c .before .before .append2 .ensures .0) (c .before .before .append2 .ensures .1)
+    list-order (a .call) (now (a .frame)) (now (a .orders)) (a .at) _ _ _ (c .before .before .before .before .before .before .before .before .before .before .least-size .result) (c .before .before .before .before .before .before .before .append .result) (c .before .before .append2 .result) _ _ (c .before .before .before .before .before .before .before .before .before .before .before .before .call .given .1) (c .before .before .before .before .before .before .before .before .before .before .before .before .before .before .before .before .pre .0) (c .before .before .before .before .before .before .before .before .before .before .least-size .ensures) (c .before .before .before .before .before .before .before .append .ensures .0) (c .before .before .before .before .before .before .before .append .ensures .1) (c .before .before .append2 .ensures .0) (c .before .before .append2 .ensures .1)
 
 pub list-call-spec : {M : Type 1} → statement M
 list-call-spec =
@@ -71,7 +71,7 @@ list-call-spec =
     enum-told-2
     enum-told-3
     enum-known-call
-    least-requires
+    least-size-requires
     add-end
     cast-t14
     slice-aggregate-append
