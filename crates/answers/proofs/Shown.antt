@@ -13,8 +13,8 @@ use Rattle.wire.specs.Bytes.{mayStand, every}
 use Rattle.wire.proofs.Suits.{both}
 use Rattle.wire.specs.Frame.{answerOf, carriable, sendable}
 use Rattle.wire.proofs.Building.{sendable-answer}
-use Rattle.wire.specs.declared.Kind.the-variants.{Answer}
-use Rattle.wire.specs.declared.Sort.the-variants.{Mark, Data, Status}
+use Rattle.wire.specs.declared.Way.the-variants.{ToTill}
+use Rattle.wire.specs.declared.Role.the-variants.{Name, Data, Status}
 use Rattle.books.specs.declared.Books.{Books}
 use Rattle.books.specs.declared.Shown.{Shown}
 use Rattle.books.specs.declared.Shown.the-variants as shown
@@ -166,13 +166,13 @@ module _ (day : List ℕ) (b : Books) where
   shown-stands shown.Rates = rw (rates-shown b)
 
 -- so every answer can be sent, whatever its reply number
-carried : (seq code : ℕ) (content : List ℕ) → mayStand Mark seq ≡ true → mayStand Mark code ≡ true → length content ≤ 200
+carried : (seq code : ℕ) (content : List ℕ) → mayStand Name seq ≡ true → mayStand Name code ≡ true → length content ≤ 200
     → every (mayStand Data) content ≡ true → carriable seq code content ≡ true
 carried seq code content p q h e = rw (p, q, le-leb (length content) 200 h, e)
 
-pub shown-sendable : (seq code n : ℕ) (s : Shown) (day : List ℕ) (b : Books) → mayStand Mark seq ≡ true → mayStand Mark code ≡ true
+pub shown-sendable : (seq code n : ℕ) (s : Shown) (day : List ℕ) (b : Books) → mayStand Name seq ≡ true → mayStand Name code ≡ true
     → length day ≡ 8 → length (b .day) ≡ 8 → length (b .receipt .groups) ≡ 8
-    → sendable Answer (answerOf seq code (contentOf s day b) (statusOf n b)) ≡ true
+    → sendable ToTill (answerOf seq code (contentOf s day b) (statusOf n b)) ≡ true
 shown-sendable seq code n s day b p q d e g =
     sendable-answer seq code (contentOf s day b) (statusOf n b) (status-six n b)
     (carried seq code (contentOf s day b) p q (shown-short day b s d e g) (shown-stands day b s))

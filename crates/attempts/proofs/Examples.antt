@@ -2,21 +2,21 @@
 use mathlib.Core.Path.{_≡_, refl}
 use mathlib.Core.List.{List, [], _∷_, _++_}
 use Rattle.wire.specs.Frame.{commandOf, frame}
-use Rattle.wire.specs.declared.Kind.the-variants.{Command}
+use Rattle.wire.specs.declared.Way.the-variants.{ToDevice}
 use Rattle.till.specs.Turns.{freshState, seqAfter, command, byte, timeout}
-use Rattle.attempts.specs.History.{Lent, history, words, putsOf, heardBytes, seqOf}
+use Rattle.attempts.specs.History.{LentEvent, history, words, putsOf, heardBytes, seqOf}
 use Rattle.attempts.specs.Handed.{handedIn}
 use Rattle.attempts.specs.Fifth.{FifthFails}
 use Rattle.till.specs.declared.Word.the-variants.{Idle, Waiting, SendAgain, Answered, Unfinished, NotSent}
 use Prim.Native.Nat.{ℕ}
 
-abbrev status74 : Lent
+abbrev status74 : LentEvent
 status74 = record { size = 210; happens = command 74 [] }
 
-abbrev late : Lent
+abbrev late : LentEvent
 late = record { size = 210; happens = timeout }
 
-abbrev nak : Lent
+abbrev nak : LentEvent
 nak = record { size = 210; happens = byte 0x15 }
 
 abbrev frame74 : List ℕ
@@ -48,7 +48,7 @@ goes-round = (refl, (refl, refl))
 -- two commands with their frames; what comes between takes none
 handed-out : handedIn (nak ∷ status74 ∷ late ∷ status74 ∷ nak ∷ heardBytes answer74 ++ (late ∷ status74 ∷ late ∷ []))
     ≡ record { command = commandOf 0x20 74 []; frames = frame74 ∷ frame74 ∷ frame74 ∷ [] }
-    ∷ record { command = commandOf 0x21 74 []; frames = frame Command (commandOf 0x21 74 []) ∷ frame Command (commandOf 0x21 74 []) ∷ [] }
+    ∷ record { command = commandOf 0x21 74 []; frames = frame ToDevice (commandOf 0x21 74 []) ∷ frame ToDevice (commandOf 0x21 74 []) ∷ [] }
     ∷ []
 handed-out = refl
 

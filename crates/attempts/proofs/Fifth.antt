@@ -8,32 +8,32 @@ use native.Mathlib.Omega.{arith}
 use lib.Dec.{ltb}
 use Rattle.wire.specs.Frame.{commandOf, frame, sendable}
 use Rattle.wire.specs.Replies.{room}
-use Rattle.wire.specs.declared.Kind.the-variants.{Command}
+use Rattle.wire.specs.declared.Way.the-variants.{ToDevice}
 use Rattle.till.specs.Turns.{Ear, freshEar, Pending, idle, waits, State, freshState, seqAfter, Happening, command, byte, timeout, Turn, stays, sent, Meaning, failed, goesOn, answers, byteMeans, onMeaning, onCommand, takes}
-use Rattle.attempts.specs.History.{Lent, says, behind, took, marksOf, marks, ends, failure, failureOf, failures}
+use Rattle.attempts.specs.History.{LentEvent, says, behind, took, marksOf, marks, ends, failure, failureOf, failures}
 use Rattle.attempts.specs.Fifth.{FifthFails, restWord, restsUntilTaken}
 use Rattle.till.specs.declared.Word.the-variants.{Waiting, Unfinished, TooShort, NotSent}
 use Rattle.attempts.proofs.Tries.{waits-through}
 
-behind-append : (xs ys : List Lent) (s : State) → behind s (xs ++ ys) ≡ behind (behind s xs) ys
+behind-append : (xs ys : List LentEvent) (s : State) → behind s (xs ++ ys) ≡ behind (behind s xs) ys
 behind-append [] ys s = refl
 behind-append (x ∷ xs) ys s = behind-append xs ys (says s x .state)
 
 -- a command that says Waiting waits with its first try
 abbrev firstTry : ℕ → ℕ → List ℕ → State
 firstTry next code content =
-    record { next = seqAfter next; pending = waits next code (frame Command (commandOf next code content)) 1 freshEar }
+    record { next = seqAfter next; pending = waits next code (frame ToDevice (commandOf next code content)) 1 freshEar }
 
 taken-waits : (next : ℕ) (p : Pending) (size code : ℕ) (content : List ℕ) (count : ℕ)
     → says (record { next = next; pending = p }) (record { size = size; happens = command code content }) .word ≡ Waiting count
     → says (record { next = next; pending = p }) (record { size = size; happens = command code content }) .state ≡ firstTry next code content
-taken-waits next p size code content count = go (ltb size (room Command)) p
+taken-waits next p size code content count = go (ltb size (room ToDevice)) p
   where
     go : (short : Bool) (q : Pending)
         → cond short (stays TooShort (record { next = next; pending = q })) (onCommand (record { next = next; pending = q }) q code content) .word ≡ Waiting count
         → cond short (stays TooShort (record { next = next; pending = q })) (onCommand (record { next = next; pending = q }) q code content) .state ≡ firstTry next code content
     go true q e = let z : _≡_ {A = ℕ} 0 1 = cc in absurd (omega arith)
-    go false idle e = by (sendable Command (commandOf next code content)) e
+    go false idle e = by (sendable ToDevice (commandOf next code content)) e
       where
         by : (can : Bool) → cond can (sent next (commandOf next code content)) (stays NotSent (record { next = next; pending = idle })) .word ≡ Waiting count
             → cond can (sent next (commandOf next code content)) (stays NotSent (record { next = next; pending = idle })) .state ≡ firstTry next code content
@@ -45,9 +45,9 @@ taken-waits next p size code content count = go (ltb size (room Command)) p
 abbrev givenUp : ℕ → Turn
 givenUp next = stays (Unfinished 5) (record { next = next; pending = idle })
 
-fails-fifth : (next seq code : ℕ) (bytes : List ℕ) (ear : Ear) (l : Lent)
+fails-fifth : (next seq code : ℕ) (bytes : List ℕ) (ear : Ear) (l : LentEvent)
     → failures (record { next = next; pending = waits seq code bytes 5 ear }) (l ∷ []) ≡ 1 → says (record { next = next; pending = waits seq code bytes 5 ear }) l ≡ givenUp next
-fails-fifth next seq code bytes ear l = go (ltb (l .size) (room Command)) (l .happens)
+fails-fifth next seq code bytes ear l = go (ltb (l .size) (room ToDevice)) (l .happens)
   where
     at : State
     at = record { next = next; pending = waits seq code bytes 5 ear }
@@ -64,9 +64,9 @@ fails-fifth next seq code bytes ear l = go (ltb (l .size) (room Command)) (l .ha
     go false timeout e = refl
 
 -- where none waits, all is at rest until a command is taken
-rests : (next : ℕ) (ls : List Lent) → restsUntilTaken (record { next = next; pending = idle }) ls
+rests : (next : ℕ) (ls : List LentEvent) → restsUntilTaken (record { next = next; pending = idle }) ls
 rests next [] = tt
-rests next (l ∷ ls) = go (ltb (l .size) (room Command)) (l .happens) (rests next ls)
+rests next (l ∷ ls) = go (ltb (l .size) (room ToDevice)) (l .happens) (rests next ls)
   where
     free : State
     free = record { next = next; pending = idle }
@@ -75,7 +75,7 @@ rests next (l ∷ ls) = go (ltb (l .size) (room Command)) (l .happens) (rests ne
         → ((cond short (stays TooShort free) (takes free h) ≡ stays (cond short TooShort (restWord h)) free) × restsUntilTaken free ls)
         ⊎ (marksOf h (cond short (stays TooShort free) (takes free h) .word) ≡ took ∷ [])
     go true h rest = inl (refl, rest)
-    go false (command code content) rest = by (sendable Command (commandOf next code content))
+    go false (command code content) rest = by (sendable ToDevice (commandOf next code content))
       where
         by : (can : Bool) → ((cond can (sent next (commandOf next code content)) (stays NotSent free) ≡ stays NotSent free) × restsUntilTaken free ls)
             ⊎ (marksOf (command code content) (cond can (sent next (commandOf next code content)) (stays NotSent free) .word) ≡ took ∷ [])
@@ -84,15 +84,15 @@ rests next (l ∷ ls) = go (ltb (l .size) (room Command)) (l .happens) (rests ne
     go false (byte b) rest = inl (refl, rest)
     go false timeout rest = inl (refl, rest)
 
-abbrev Ends : State → Lent → Type 0
-Ends s l = (says s l ≡ givenUp (s .next)) × ((after : List Lent) → restsUntilTaken (says s l .state) after)
+abbrev Ends : State → LentEvent → Type 0
+Ends s l = (says s l ≡ givenUp (s .next)) × ((after : List LentEvent) → restsUntilTaken (says s l .state) after)
 
-ends-fifth : (next code : ℕ) (content : List ℕ) (during : List Lent) (l : Lent) (s : State) → s ≡ firstTry next code content
+ends-fifth : (next code : ℕ) (content : List ℕ) (during : List LentEvent) (l : LentEvent) (s : State) → s ≡ firstTry next code content
     → ends (marks s during) ≡ false → failures s during ≡ 4 → failures (behind s during) (l ∷ []) ≡ 1 → Ends (behind s during) l
 ends-fifth next code content during l s e =
     subst (λ (z : State). ends (marks z during) ≡ false → failures z during ≡ 4 → failures (behind z during) (l ∷ []) ≡ 1 → Ends (behind z during) l) (sym e)
     (λ on four more.
-    let bytes = frame Command (commandOf next code content) in
+    let bytes = frame ToDevice (commandOf next code content) in
     let w = waits-through during (seqAfter next) next code bytes 1 freshEar (omega arith) on in
     let at = w .state ∙ ap (λ j. record { next = seqAfter next; pending = waits next code bytes (1 + j) (w .ear) }) four in
     let up = fails-fifth (seqAfter next) next code bytes (w .ear) l (sym (ap (λ (z : State). failures z (l ∷ [])) at) ∙ more) in
@@ -100,9 +100,9 @@ ends-fifth next code content during l s e =
 
 -- the theorem: with the fifth failed try Unfinished 5 is said, no byte is put, the command is given up; and afterwards every byte and every timeout says Idle
 -- and changes nothing, until the next command is taken
-pub the-fifth-failed-try : (before : List Lent) (taken : Lent) (during : List Lent) (fifth : Lent) → FifthFails before taken during fifth
+pub the-fifth-failed-try : (before : List LentEvent) (taken : LentEvent) (during : List LentEvent) (fifth : LentEvent) → FifthFails before taken during fifth
     → let s = behind freshState (before ++ taken ∷ during) in
-    (says s fifth ≡ stays (Unfinished 5) (record { next = s .next; pending = idle })) × ((after : List Lent) → restsUntilTaken (says s fifth .state) after)
+    (says s fifth ≡ stays (Unfinished 5) (record { next = s .next; pending = idle })) × ((after : List LentEvent) → restsUntilTaken (says s fifth .state) after)
 the-fifth-failed-try before taken during fifth h =
     let s = behind freshState before in
     let one : behind freshState (before ++ taken ∷ []) ≡ says s taken .state = behind-append before (taken ∷ []) freshState in

@@ -9,7 +9,7 @@ use lib.ListN.{length, take, drop, length-take}
 use lib.Seq.{sets, sets-eq, take-at}
 use borrow.Author.Tests.{ltb-true, ltb-false}
 use Rattle.wire.specs.Frame.{commandOf, frame, sendable}
-use Rattle.wire.specs.declared.Kind.the-variants.{Command, Answer}
+use Rattle.wire.specs.declared.Way.the-variants.{ToDevice, ToTill}
 use Rattle.reader.specs.Reading.{outside, inside}
 use Rattle.reader.specs.Fields.{placeOf, readerOf, keptIn}
 use Rattle.reader.specs.declared.Reader.{Reader}
@@ -63,7 +63,7 @@ module _ (next : ℕ) (a : Attempt) (frame-in answer-in : List ℕ) (small : (a 
   roomy-byte : (b : ℕ) (x : Meaning) → byteMeans (a .seq) (a .code) at b ≡ x → Roomy (onMeaning next (a .seq) (a .code) held (a .tries) x .state .pending)
   roomy-byte b failed e = roomy-failed
   roomy-byte b (goesOn q) e =
-      (held-few, omega (arith, ap (λ (z : Ear). length (bytesOf (z .place))) (goes-on (a .seq) (a .code) at b q e), read-room Answer (at .place) b, place-few (a .ear .reader) answer-in, small .1))
+      (held-few, omega (arith, ap (λ (z : Ear). length (bytesOf (z .place))) (goes-on (a .seq) (a .code) at b q e), read-room ToTill (at .place) b, place-few (a .ear .reader) answer-in, small .1))
   roomy-byte b (answers m) e = tt
 
 made : (s : State) (frame answer : List ℕ) → length frame ≡ 256 → length answer ≡ 256 → Roomy (s .pending)
@@ -96,13 +96,13 @@ module _ (t : Till) (frame-in answer-in : List ℕ) (sf : length frame-in ≡ 25
   -- each kind of turn
   module _ (buf : List ℕ) (big : 210 ≤ length buf) where
     free-sent : (code : ℕ) (content : List ℕ) → t .slot ≡ Free → Follows (sentBy (t .next) code content)
-    free-sent code content e = go (sendable Command (commandOf (t .next) code content)) refl
+    free-sent code content e = go (sendable ToDevice (commandOf (t .next) code content)) refl
       where
-        go : (s : Bool) → sendable Command (commandOf (t .next) code content) ≡ s
+        go : (s : Bool) → sendable ToDevice (commandOf (t .next) code content) ≡ s
             → Follows (cond s (sent (t .next) (commandOf (t .next) code content)) (stays NotSent (record { next = t .next; pending = idle })))
         go true es =
             follows-made (sent (t .next) (commandOf (t .next) code content)) refl
-            (omega (arith, frame-size Command (commandOf (t .next) code content) es .1), omega arith)
+            (omega (arith, frame-size ToDevice (commandOf (t .next) code content) es .1), omega arith)
         go false es = ap (λ z. record { next = t .next; pending = pendingOf z frame-in answer-in }) e
 
     free : t .slot ≡ Free → (h : Happening) → Follows (turnOf t frame-in answer-in buf h)

@@ -8,9 +8,9 @@ use lib.ListN.{length, replicate, length-append}
 use borrow.Author.Tests.{ne-eqb}
 use Rattle.wire.specs.Bytes.{mayStand, every}
 use Rattle.wire.specs.Frame.{Message, total, bcc, counted, inner, frame, sendable, hexadecimal}
-use Rattle.wire.specs.declared.Kind.the-variants.{Answer}
-use Rattle.wire.specs.declared.Sort.{Sort}
-use Rattle.wire.specs.declared.Sort.the-variants.{Mark as SeqOrCmd, Data, Status}
+use Rattle.wire.specs.declared.Way.the-variants.{ToTill}
+use Rattle.wire.specs.declared.Role.{Role}
+use Rattle.wire.specs.declared.Role.the-variants.{Name as SeqOrCmd, Data, Status}
 use Rattle.wire.proofs.Suits.{both}
 use Rattle.wire.proofs.Building.{length-enclosed}
 use Rattle.reader.specs.Reading.{Place, outside, inside, nothing, heard, read, Run, run, startsAnew}
@@ -31,12 +31,12 @@ no-nak-join : (xs ys : List ℕ) → No-nak xs → No-nak ys → No-nak (xs ++ y
 no-nak-join [] ys p q = q
 no-nak-join (x ∷ xs) ys p q = (p .0, no-nak-join xs ys (p .1) q)
 
-no-nak-stands : (sort : Sort) (b : ℕ) → mayStand sort b ≡ true → b ≡ 0x15 → ⊥
+no-nak-stands : (sort : Role) (b : ℕ) → mayStand sort b ≡ true → b ≡ 0x15 → ⊥
 no-nak-stands SeqOrCmd b e q = false≢true (ap (mayStand SeqOrCmd) (sym q) ∙ e)
 no-nak-stands Data b e q = false≢true (ap (mayStand Data) (sym q) ∙ e)
 no-nak-stands Status b e q = false≢true (ap (mayStand Status) (sym q) ∙ e)
 
-no-nak-every : (sort : Sort) (bs : List ℕ) → every (mayStand sort) bs ≡ true → No-nak bs
+no-nak-every : (sort : Role) (bs : List ℕ) → every (mayStand sort) bs ≡ true → No-nak bs
 no-nak-every sort [] e = tt
 no-nak-every sort (b ∷ bs) e =
     let two = both (mayStand sort b) (every (mayStand sort) bs) e in
@@ -48,14 +48,14 @@ hex-no-nak n e = omega arith
 no-nak-bcc : (sum : ℕ) → No-nak (bcc sum)
 no-nak-bcc sum = (hex-no-nak (sum / 4096), (hex-no-nak (sum / 256), (hex-no-nak (sum / 16), (hex-no-nak sum, tt))))
 
-no-nak-counted : (m : Message) → Parts Answer m → No-nak (counted (m .seq) (m .code) (inner Answer m))
+no-nak-counted : (m : Message) → Parts ToTill m → No-nak (counted (m .seq) (m .code) (inner ToTill m))
 no-nak-counted m h = (
   (λ e. omega arith),
   (
     no-nak-stands SeqOrCmd (m .seq) (h .seq),
     (
       no-nak-stands SeqOrCmd (m .code) (h .code),
-      no-nak-join (inner Answer m) (0x05 ∷ [])
+      no-nak-join (inner ToTill m) (0x05 ∷ [])
           (no-nak-join (m .content) (0x04 ∷ m .status) (no-nak-every Data (m .content) (h .content)) ((λ e. omega arith), no-nak-every Status (m .status) (h .status)))
           ((λ e. omega arith), tt),
     ),
@@ -64,12 +64,12 @@ no-nak-counted m h = (
 
 -- all behind 01h
 abbrev rest : Message → List ℕ
-rest m = counted (m .seq) (m .code) (inner Answer m) ++ bcc (total (counted (m .seq) (m .code) (inner Answer m))) ++ 0x03 ∷ []
+rest m = counted (m .seq) (m .code) (inner ToTill m) ++ bcc (total (counted (m .seq) (m .code) (inner ToTill m))) ++ 0x03 ∷ []
 
-no-nak-rest : (m : Message) → Parts Answer m → No-nak (rest m)
+no-nak-rest : (m : Message) → Parts ToTill m → No-nak (rest m)
 no-nak-rest m h =
-    no-nak-join (counted (m .seq) (m .code) (inner Answer m) ++ bcc (total (counted (m .seq) (m .code) (inner Answer m)))) (0x03 ∷ [])
-    (no-nak-join (counted (m .seq) (m .code) (inner Answer m)) (bcc (total (counted (m .seq) (m .code) (inner Answer m)))) (no-nak-counted m h) (no-nak-bcc (total (counted (m .seq) (m .code) (inner Answer m)))))
+    no-nak-join (counted (m .seq) (m .code) (inner ToTill m) ++ bcc (total (counted (m .seq) (m .code) (inner ToTill m)))) (0x03 ∷ [])
+    (no-nak-join (counted (m .seq) (m .code) (inner ToTill m)) (bcc (total (counted (m .seq) (m .code) (inner ToTill m)))) (no-nak-counted m h) (no-nak-bcc (total (counted (m .seq) (m .code) (inner ToTill m)))))
     ((λ e. omega arith), tt)
 
 -- a byte that brings nothing
@@ -84,10 +84,10 @@ module _ (next seq code : ℕ) (bytes : List ℕ) (tries : ℕ) where
   abbrev done : State
   done = record { next = next; pending = idle }
 
-  goes : (ear : Ear) (b : ℕ) → (b ≡ 0x15 → ⊥) → read Answer (ear .place) b .event ≡ nothing
+  goes : (ear : Ear) (b : ℕ) → (b ≡ 0x15 → ⊥) → read ToTill (ear .place) b .event ≡ nothing
       → says (at ear) (record { size = 210; happens = byte b }) ≡ stays (Waiting 0) (at (earAfter ear b))
   goes ear b h e =
-      ap (λ n. onMeaning next seq code bytes tries (cond n failed (readAs seq code b (earAfter ear b) (read Answer (ear .place) b .event)))) (no-nak-place (ear .place) b h)
+      ap (λ n. onMeaning next seq code bytes tries (cond n failed (readAs seq code b (earAfter ear b) (read ToTill (ear .place) b .event)))) (no-nak-place (ear .place) b h)
       ∙ ap (λ z. onMeaning next seq code bytes tries (readAs seq code b (earAfter ear b) z)) e
 
   -- 01h, wherever reading stands
@@ -116,37 +116,37 @@ module _ (next seq code : ℕ) (bytes : List ℕ) (tries : ℕ) where
     ),
   )
 
-  the-last : (ear : Ear) (b : ℕ) (m : Message) → m .seq ≡ seq → m .code ≡ code → read Answer (ear .place) b .event ≡ heard m → Heard (at ear) (b ∷ []) 0 m
+  the-last : (ear : Ear) (b : ℕ) (m : Message) → m .seq ≡ seq → m .code ≡ code → read ToTill (ear .place) b .event ≡ heard m → Heard (at ear) (b ∷ []) 0 m
   the-last ear b m es ec e =
       let turn : says (at ear) (record { size = 210; happens = byte b }) ≡ gives Answered (m .content ++ m .status) done =
       ap (onMeaning next seq code bytes tries) (heard-answers seq code ear b m (record { hears = e; seq-is = es; code-is = ec })) in
       (ap (λ (z : Turn). z .word ∷ []) turn, (ap (λ (z : Turn). z .puts ∷ []) turn, ap (λ (z : Turn). z .state) turn))
 
   walk : (bs : List ℕ) (ear : Ear) (n : ℕ) (m : Message) → m .seq ≡ seq → m .code ≡ code → No-nak bs
-      → run Answer (ear .place) bs .events ≡ replicate n nothing ++ heard m ∷ [] → Heard (at ear) bs n m
+      → run ToTill (ear .place) bs .events ≡ replicate n nothing ++ heard m ∷ [] → Heard (at ear) bs n m
   walk [] ear n m es ec h e = absurd (omega (arith, ap length e, length-append (replicate n nothing) (heard m ∷ [])))
   walk (b ∷ []) ear zero m es ec h e = the-last ear b m es ec (cc)
   walk (b ∷ c ∷ bs) ear zero m es ec h e = let z : _≡_ {A = ℕ} 0 1 = cc in absurd (omega arith)
   walk (b ∷ bs) ear (suc n) m es ec h e =
-      let first : read Answer (ear .place) b .event ≡ nothing = cc in
-      let others : run Answer (earAfter ear b .place) bs .events ≡ replicate n nothing ++ heard m ∷ [] = cc in
+      let first : read ToTill (ear .place) b .event ≡ nothing = cc in
+      let others : run ToTill (earAfter ear b .place) bs .events ≡ replicate n nothing ++ heard m ∷ [] = cc in
       one-more (at ear) (at (earAfter ear b)) b bs n m (goes ear b (h .0) first) (walk bs (earAfter ear b) n m es ec (h .1) others)
 
-  whole : (ear : Ear) (m : Message) → sendable Answer m ≡ true → m .seq ≡ seq → m .code ≡ code → Heard (at ear) (frame Answer m) (suc (length (inner Answer m) + 8)) m
+  whole : (ear : Ear) (m : Message) → sendable ToTill m ≡ true → m .seq ≡ seq → m .code ≡ code → Heard (at ear) (frame ToTill m) (suc (length (inner ToTill m) + 8)) m
   whole ear m can es ec =
-      let events : startsAnew (ear .place) ∷ run Answer (inside 0 []) (rest m) .events ≡ startsAnew (ear .place) ∷ (replicate (length (inner Answer m) + 8) nothing ++ heard m ∷ []) =
-      ap (λ (r : Run). r .events) (sym (run-first Answer (ear .place) 0x01 (rest m) _ (read-start Answer (ear .place) 0x01 refl)) ∙ read-what-was-built Answer m can (ear .place)) in
-      one-more (at ear) (at (earAfter ear 0x01)) 0x01 (rest m) (length (inner Answer m) + 8) m (starts ear)
-      (walk (rest m) (earAfter ear 0x01) (length (inner Answer m) + 8) m es ec (no-nak-rest m (parts Answer m can)) (cc))
+      let events : startsAnew (ear .place) ∷ run ToTill (inside 0 []) (rest m) .events ≡ startsAnew (ear .place) ∷ (replicate (length (inner ToTill m) + 8) nothing ++ heard m ∷ []) =
+      ap (λ (r : Run). r .events) (sym (run-first ToTill (ear .place) 0x01 (rest m) _ (read-start ToTill (ear .place) 0x01 refl)) ∙ read-what-was-built ToTill m can (ear .place)) in
+      one-more (at ear) (at (earAfter ear 0x01)) 0x01 (rest m) (length (inner ToTill m) + 8) m (starts ear)
+      (walk (rest m) (earAfter ear 0x01) (length (inner ToTill m) + 8) m es ec (no-nak-rest m (parts ToTill m can)) (cc))
 
 -- the theorem
 pub answer-heard : (s : State) (seq code : ℕ) (bytes : List ℕ) (tries : ℕ) (ear : Ear) → s .pending ≡ waits seq code bytes tries ear
-    → (m : Message) → sendable Answer m ≡ true → m .seq ≡ seq → m .code ≡ code
-    → (words (history s (heardBytes (frame Answer m))) ≡ replicate (length (frame Answer m) - 1) (Waiting 0) ++ Answered (length (m .content ++ m .status)) ∷ [])
-    × ((putsOf (history s (heardBytes (frame Answer m))) ≡ replicate (length (frame Answer m) - 1) [] ++ (m .content ++ m .status) ∷ [])
-    × (behind s (heardBytes (frame Answer m)) ≡ record { next = s .next; pending = idle }))
+    → (m : Message) → sendable ToTill m ≡ true → m .seq ≡ seq → m .code ≡ code
+    → (words (history s (heardBytes (frame ToTill m))) ≡ replicate (length (frame ToTill m) - 1) (Waiting 0) ++ Answered (length (m .content ++ m .status)) ∷ [])
+    × ((putsOf (history s (heardBytes (frame ToTill m))) ≡ replicate (length (frame ToTill m) - 1) [] ++ (m .content ++ m .status) ∷ [])
+    × (behind s (heardBytes (frame ToTill m)) ≡ record { next = s .next; pending = idle }))
 answer-heard s seq code bytes tries ear e m can es ec =
-    let size : suc (length (inner Answer m) + 8) ≡ length (frame Answer m) - 1 = omega (arith, length-enclosed (m .seq) (m .code) (inner Answer m)) in
-    subst (λ (p : Pending). Heard (s .next) seq code bytes tries (record { next = s .next; pending = p }) (frame Answer m) (length (frame Answer m) - 1) m) (sym e)
-    (subst (λ n. Heard (s .next) seq code bytes tries (record { next = s .next; pending = waits seq code bytes tries ear }) (frame Answer m) n m) size
+    let size : suc (length (inner ToTill m) + 8) ≡ length (frame ToTill m) - 1 = omega (arith, length-enclosed (m .seq) (m .code) (inner ToTill m)) in
+    subst (λ (p : Pending). Heard (s .next) seq code bytes tries (record { next = s .next; pending = p }) (frame ToTill m) (length (frame ToTill m) - 1) m) (sym e)
+    (subst (λ n. Heard (s .next) seq code bytes tries (record { next = s .next; pending = waits seq code bytes tries ear }) (frame ToTill m) n m) size
     (whole (s .next) seq code bytes tries ear m can es ec))

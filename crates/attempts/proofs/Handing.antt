@@ -7,9 +7,9 @@ use native.Mathlib.Omega.{arith}
 use lib.Dec.{ltb}
 use Rattle.wire.specs.Frame.{commandOf, sendable}
 use Rattle.wire.specs.Replies.{room}
-use Rattle.wire.specs.declared.Kind.the-variants.{Command}
+use Rattle.wire.specs.declared.Way.the-variants.{ToDevice}
 use Rattle.till.specs.Turns.{State, freshState, Happening, command, byte, timeout, sent, stays, takes}
-use Rattle.attempts.specs.History.{Lent, says, seqOf, Open, none, one, Seen, nothingSeen, onWord, noted}
+use Rattle.attempts.specs.History.{LentEvent, says, seqOf, Open, none, one, Seen, nothingSeen, onWord, noted}
 use Rattle.attempts.specs.Promises.{Tried}
 use Rattle.attempts.specs.Handed.{Handed, HandsOut, noFrame, firstFrame, frameAgain, handsOut, handedAt, untilNext, handedAgainIn, withCommand, handedFrom, handedIn, AllInPlace, frameIn, framesIn, framesOf}
 use Rattle.till.specs.declared.Word.{Word}
@@ -21,7 +21,7 @@ pub seqs-differ : (place : ℕ) → seqOf place ≡ seqOf (place + 1) → ⊥
 seqs-differ place e = omega arith
 
 -- all frames are among those of the commands taken
-all-there : (ls : List Lent) (s : State) (before : ℕ) → framesIn s ls ≡ handedAgainIn s ls ++ framesOf (handedFrom before s ls)
+all-there : (ls : List LentEvent) (s : State) (before : ℕ) → framesIn s ls ≡ handedAgainIn s ls ++ framesOf (handedFrom before s ls)
 all-there [] s before = refl
 all-there (l ∷ ls) s before = go (handedAt s l) (all-there ls (says s l .state))
   where
@@ -36,15 +36,15 @@ all-there (l ∷ ls) s before = go (handedAt s l) (all-there ls (says s l .state
     go (frameAgain bytes) rest = ap (λ z. bytes ∷ z) (rest before)
 
 -- where none waits, no frame goes out again
-none-again : (k : ℕ) (l : Lent) (n : ℕ) → says (stateSeen (record { commands = k; last = none })) l .word ≡ SendAgain n → ⊥
-none-again k l n = go (ltb (l .size) (room Command)) (l .happens)
+none-again : (k : ℕ) (l : LentEvent) (n : ℕ) → says (stateSeen (record { commands = k; last = none })) l .word ≡ SendAgain n → ⊥
+none-again k l n = go (ltb (l .size) (room ToDevice)) (l .happens)
   where
     free : State
     free = stateSeen (record { commands = k; last = none })
 
     go : (short : Bool) (h : Happening) → cond short (stays TooShort free) (takes free h) .word ≡ SendAgain n → ⊥
     go true h e = let z : _≡_ {A = ℕ} 0 1 = cc in omega arith
-    go false (command code content) e = by (sendable Command (commandOf (seqOf k) code content)) e
+    go false (command code content) e = by (sendable ToDevice (commandOf (seqOf k) code content)) e
       where
         by : (can : Bool) → cond can (sent (seqOf k) (commandOf (seqOf k) code content)) (stays NotSent free) .word ≡ SendAgain n → ⊥
         by true e = let z : _≡_ {A = ℕ} 0 1 = cc in omega arith
@@ -57,7 +57,7 @@ abbrev WithAgain : Open → List (List ℕ) → Type 0
 WithAgain none again = again ≡ []
 WithAgain (one m frames since) again = Tried m (frames ++ again)
 
-abbrev Goes : Seen → State → List Lent → Type 0
+abbrev Goes : Seen → State → List LentEvent → Type 0
 Goes seen s ls = WithAgain (seen .last) (handedAgainIn s ls) × AllInPlace (seen .commands) (handedFrom (seen .commands) s ls)
 
 -- no command ends or begins: the same command goes on
@@ -88,7 +88,7 @@ module _ (k : ℕ) (again : List (List ℕ)) (rest : ℕ → List Handed) where
   onto o s h TooShort puts never on = on
   onto o s h NotSent puts never on = on
 
-goes : (ls : List Lent) (seen : Seen) → Sound (seen .last) → Goes seen (stateSeen seen) ls
+goes : (ls : List LentEvent) (seen : Seen) → Sound (seen .last) → Goes seen (stateSeen seen) ls
 goes [] seen sound = go (seen .last) sound
   where
     go : (o : Open) → Sound o → WithAgain o [] × AllInPlace (seen .commands) []
@@ -104,9 +104,9 @@ goes (l ∷ ls) seen sound =
 
 -- the theorem: whatever happens at a fresh till end, each command it took can be sent and has the SEQ of its place, and its frames are its own, one to
 -- five
-pub frames-are-tries : (ls : List Lent) → AllInPlace 0 (handedIn ls)
+pub frames-are-tries : (ls : List LentEvent) → AllInPlace 0 (handedIn ls)
 frames-are-tries ls = goes ls nothingSeen tt .1
 
 -- and there is no other frame
-pub every-frame : (ls : List Lent) → framesIn freshState ls ≡ framesOf (handedIn ls)
+pub every-frame : (ls : List LentEvent) → framesIn freshState ls ≡ framesOf (handedIn ls)
 every-frame ls = all-there ls freshState 0 ∙ ap (λ z. z ++ framesOf (handedIn ls)) (goes ls nothingSeen tt .0)

@@ -10,23 +10,23 @@ use lib.ListN.{length, replicate, length-append, replicate-append-replicate}
 use borrow.Author.Tests.{ltb-true, eqb-true, eqb-false}
 use Rattle.wire.specs.Frame.{Message, commandOf, frame, sendable}
 use Rattle.wire.specs.Replies.{room}
-use Rattle.wire.specs.declared.Kind.the-variants.{Command, Answer}
+use Rattle.wire.specs.declared.Way.the-variants.{ToDevice, ToTill}
 use Rattle.reader.specs.Reading.{outside, Event, nothing, brokenFrame, heard, read, Run, run}
 use Rattle.reader.proofs.Walking.{run-append}
 use Rattle.till.specs.Turns.{Ear, freshEar, earAfter, Pending, idle, waits, State, freshState, seqAfter, Happening, command, byte, timeout, Turn, stays, sent, Meaning, failed, goesOn, answers, readAs, nakOutside, byteMeans, failsTry, onMeaning, onCommand, takes}
-use Rattle.attempts.specs.History.{Lent, says, behind, seqOf, Open, none, one, Seen, nothingSeen, noted, watch, watched}
+use Rattle.attempts.specs.History.{LentEvent, says, behind, seqOf, Open, none, one, Seen, nothingSeen, noted, watch, watched}
 use Rattle.attempts.specs.Promises.{Tried}
 use Rattle.till.specs.declared.Word.the-variants.{TooShort, NotSent}
 use Rattle.till.proofs.Turning.{failsBy}
 
 -- what the last try has heard, by the bytes since its frame was handed out
 abbrev pub earSeen : List ℕ → Ear
-earSeen bytes = record { place = run Answer outside bytes .place }
+earSeen bytes = record { place = run ToTill outside bytes .place }
 
 -- the state that was seen
 abbrev pub pendingSeen : Open → Pending
 pendingSeen none = idle
-pendingSeen (one m frames bytes) = waits (m .seq) (m .code) (frame Command m) (length frames) (earSeen bytes)
+pendingSeen (one m frames bytes) = waits (m .seq) (m .code) (frame ToDevice m) (length frames) (earSeen bytes)
 
 abbrev pub stateSeen : Seen → State
 stateSeen seen = record { next = seqOf (seen .commands); pending = pendingSeen (seen .last) }
@@ -50,7 +50,7 @@ seq-up k = go (eqb (seqOf k) 0xFF) refl
 
 -- a byte that goes on is read
 pub goes-on : (seq code : ℕ) (ear : Ear) (b : ℕ) (q : Ear) → byteMeans seq code ear b ≡ goesOn q → q ≡ earAfter ear b
-goes-on seq code ear b q = go (nakOutside (ear .place) b) (read Answer (ear .place) b .event)
+goes-on seq code ear b q = go (nakOutside (ear .place) b) (read ToTill (ear .place) b .event)
   where
     go : (n : Bool) (e : Event) → cond n failed (readAs seq code b (earAfter ear b) e) ≡ goesOn q → q ≡ earAfter ear b
     go true e h = let z : _≡_ {A = ℕ} 0 1 = cc in absurd (omega arith)
@@ -68,7 +68,7 @@ goes-on seq code ear b q = go (nakOutside (ear .place) b) (read Answer (ear .pla
 
 -- one byte more of a run
 ear-more : (bytes : List ℕ) (b : ℕ) → earSeen (bytes ++ b ∷ []) ≡ earAfter (earSeen bytes) b
-ear-more bytes b = ap (λ (r : Run). record { place = r .place }) (run-append Answer outside bytes (b ∷ []))
+ear-more bytes b = ap (λ (r : Run). record { place = r .place }) (run-append ToTill outside bytes (b ∷ []))
 
 -- what a turn leaves is what is seen of it
 abbrev Good : Seen → Happening → Turn → Type 0
@@ -79,7 +79,7 @@ module _ (k : ℕ) (m : Message) (frames : List (List ℕ)) (bytes : List ℕ) (
   here = record { commands = k; last = one m frames bytes }
 
   abbrev bytes-out : List ℕ
-  bytes-out = frame Command m
+  bytes-out = frame ToDevice m
 
   one-more : length frames + 1 ≡ length (frames ++ bytes-out ∷ [])
   one-more = omega (arith, length-append frames (bytes-out ∷ []))
@@ -116,13 +116,13 @@ module _ (k : ℕ) (m : Message) (frames : List (List ℕ)) (bytes : List ℕ) (
 -- a command, where none waits
 sent-good : (k code : ℕ) (content : List ℕ)
     → Good (record { commands = k; last = none }) (command code content) (onCommand (record { next = seqOf k; pending = idle }) idle code content)
-sent-good k code content = go (sendable Command (commandOf (seqOf k) code content)) refl
+sent-good k code content = go (sendable ToDevice (commandOf (seqOf k) code content)) refl
   where
-    go : (s : Bool) → sendable Command (commandOf (seqOf k) code content) ≡ s
+    go : (s : Bool) → sendable ToDevice (commandOf (seqOf k) code content) ≡ s
         → Good (record { commands = k; last = none }) (command code content)
         (cond s (sent (seqOf k) (commandOf (seqOf k) code content)) (stays NotSent (record { next = seqOf k; pending = idle })))
     go true e = (
-      ap (λ z. record { next = z; pending = waits (seqOf k) code (frame Command (commandOf (seqOf k) code content)) 1 freshEar }) (seq-up k),
+      ap (λ z. record { next = z; pending = waits (seqOf k) code (frame ToDevice (commandOf (seqOf k) code content)) 1 freshEar }) (seq-up k),
       record { can = e; same = refl; some = omega arith; few = omega arith },
     )
     go false e = (refl, tt)
@@ -138,15 +138,15 @@ takes-good seen h sound = go (seen .commands) (seen .last) sound h
     go k (one m frames bytes) s (byte b) = byte-good k m frames bytes s b
     go k (one m frames bytes) s timeout = fails-good k m frames bytes s timeout
 
-pub turn-good : (seen : Seen) (l : Lent) → Sound (seen .last) → Good seen (l .happens) (says (stateSeen seen) l)
-turn-good seen l sound = go (ltb (l .size) (room Command))
+pub turn-good : (seen : Seen) (l : LentEvent) → Sound (seen .last) → Good seen (l .happens) (says (stateSeen seen) l)
+turn-good seen l sound = go (ltb (l .size) (room ToDevice))
   where
     go : (s : Bool) → Good seen (l .happens) (cond s (stays TooShort (stateSeen seen)) (takes (stateSeen seen) (l .happens)))
     go true = (refl, sound)
     go false = takes-good seen (l .happens) sound
 
 -- the till end behind any list of events is in the state that was seen
-seen-behind : (ls : List Lent) (seen : Seen) → Sound (seen .last)
+seen-behind : (ls : List LentEvent) (seen : Seen) → Sound (seen .last)
     → (behind (stateSeen seen) ls ≡ stateSeen (watch seen (stateSeen seen) ls)) × Sound (watch seen (stateSeen seen) ls .last)
 seen-behind [] seen sound = (refl, sound)
 seen-behind (l ∷ ls) seen sound =
@@ -154,8 +154,8 @@ seen-behind (l ∷ ls) seen sound =
     let next : Seen = noted seen (l .happens) (says (stateSeen seen) l) in
     subst (λ (z : State). (behind z ls ≡ stateSeen (watch next z ls)) × Sound (watch next z ls .last)) (sym (good .0)) (seen-behind ls next (good .1))
 
-pub state-seen : (ls : List Lent) → behind freshState ls ≡ stateSeen (watched ls)
+pub state-seen : (ls : List LentEvent) → behind freshState ls ≡ stateSeen (watched ls)
 state-seen ls = seen-behind ls nothingSeen tt .0
 
-pub sound-seen : (ls : List Lent) → Sound (watched ls .last)
+pub sound-seen : (ls : List LentEvent) → Sound (watched ls .last)
 sound-seen ls = seen-behind ls nothingSeen tt .1

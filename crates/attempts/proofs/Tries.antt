@@ -12,11 +12,11 @@ use borrow.Author.Tests.{ltb-true, ltb-false, lt-ltb, le-ltb, le-leb}
 use Rattle.wire.specs.Bytes.{mayStand, every}
 use Rattle.wire.specs.Frame.{Message, commandOf, frame, sendable}
 use Rattle.wire.specs.Replies.{room}
-use Rattle.wire.specs.declared.Kind.the-variants.{Command}
-use Rattle.wire.specs.declared.Sort.the-variants.{Mark as SeqOrCmd, Data}
+use Rattle.wire.specs.declared.Way.the-variants.{ToDevice}
+use Rattle.wire.specs.declared.Role.the-variants.{Name as SeqOrCmd, Data}
 use Rattle.wire.proofs.Building.{sendable-command}
 use Rattle.till.specs.Turns.{Ear, freshEar, Pending, idle, waits, State, freshState, Happening, command, byte, timeout, Turn, stays, sent, Meaning, failed, goesOn, answers, byteMeans, failsTry, onMeaning, onCommand, takes, hears}
-use Rattle.attempts.specs.History.{Lent, says, behind, seqOf, Open, none, one, Seen, nothingSeen, onWord, noted, watch, watched, Mark, ended, marksOf, marks, alternate, ends, failure, failureOf, failures}
+use Rattle.attempts.specs.History.{LentEvent, says, behind, seqOf, Open, none, one, Seen, nothingSeen, onWord, noted, watch, watched, Name, ended, marksOf, marks, alternate, ends, failure, failureOf, failures}
 use Rattle.attempts.specs.Promises.{Tried, GivenUp}
 use Rattle.till.specs.declared.Word.the-variants.{Idle, Unfinished, TooShort, NotSent}
 use Rattle.attempts.proofs.Answers.{none-idle}
@@ -24,14 +24,14 @@ use Rattle.till.proofs.Turning.{failsBy}
 use Rattle.attempts.proofs.Seeing.{earSeen, stateSeen, Sound, state-seen, sound-seen}
 
 -- at every moment the frames handed out for the command that waits are its own, one to five
-pub frames-same : (ls : List Lent) (m : Message) (frames : List (List ℕ)) (since : List ℕ) → watched ls .last ≡ one m frames since → Tried m frames
+pub frames-same : (ls : List LentEvent) (m : Message) (frames : List (List ℕ)) (since : List ℕ) → watched ls .last ≡ one m frames since → Tried m frames
 frames-same ls m frames since e = subst Sound e (sound-seen ls)
 
 given-failed : (k : ℕ) (m : Message) (frames : List (List ℕ)) (since : List ℕ) (n : ℕ) → Tried m frames
-    → failsTry (seqOf k) (m .seq) (m .code) (frame Command m) (length frames) .word ≡ Unfinished n → GivenUp (record { commands = k; last = one m frames since }) n
+    → failsTry (seqOf k) (m .seq) (m .code) (frame ToDevice m) (length frames) .word ≡ Unfinished n → GivenUp (record { commands = k; last = one m frames since }) n
 given-failed k m frames since n tried = go (ltb (length frames) 5) refl
   where
-    go : (s : Bool) → ltb (length frames) 5 ≡ s → failsBy (seqOf k) (m .seq) (m .code) (frame Command m) (length frames) s .word ≡ Unfinished n
+    go : (s : Bool) → ltb (length frames) 5 ≡ s → failsBy (seqOf k) (m .seq) (m .code) (frame ToDevice m) (length frames) s .word ≡ Unfinished n
         → GivenUp (record { commands = k; last = one m frames since }) n
     go true e w = let z : _≡_ {A = ℕ} 0 1 = cc in absurd (omega arith)
     go false e w =
@@ -44,24 +44,24 @@ given-failed k m frames since n tried = go (ltb (length frames) 5) refl
           waits = refl;
           count = sym same;
           five = sym same ∙ five;
-          same = tried .same ∙ ap (λ j. replicate j (frame Command m)) five;
+          same = tried .same ∙ ap (λ j. replicate j (frame ToDevice m)) five;
         }
 
 given-byte : (k : ℕ) (m : Message) (frames : List (List ℕ)) (since : List ℕ) (n : ℕ) → Tried m frames → (x : Meaning)
-    → onMeaning (seqOf k) (m .seq) (m .code) (frame Command m) (length frames) x .word ≡ Unfinished n → GivenUp (record { commands = k; last = one m frames since }) n
+    → onMeaning (seqOf k) (m .seq) (m .code) (frame ToDevice m) (length frames) x .word ≡ Unfinished n → GivenUp (record { commands = k; last = one m frames since }) n
 given-byte k m frames since n tried failed w = given-failed k m frames since n tried w
 given-byte k m frames since n tried (goesOn ear) w = let z : _≡_ {A = ℕ} 0 1 = cc in absurd (omega arith)
 given-byte k m frames since n tried (answers a) w = let z : _≡_ {A = ℕ} 0 1 = cc in absurd (omega arith)
 
 no-sent : (k code : ℕ) (content : List ℕ) (n : ℕ) → onCommand (record { next = seqOf k; pending = idle }) idle code content .word ≡ Unfinished n → ⊥
-no-sent k code content n = go (sendable Command (commandOf (seqOf k) code content))
+no-sent k code content n = go (sendable ToDevice (commandOf (seqOf k) code content))
   where
     go : (s : Bool) → cond s (sent (seqOf k) (commandOf (seqOf k) code content)) (stays NotSent (record { next = seqOf k; pending = idle })) .word ≡ Unfinished n → ⊥
     go true e = let z : _≡_ {A = ℕ} 0 1 = cc in omega arith
     go false e = let z : _≡_ {A = ℕ} 0 1 = cc in omega arith
 
-given-seen : (seen : Seen) (l : Lent) (n : ℕ) → Sound (seen .last) → says (stateSeen seen) l .word ≡ Unfinished n → GivenUp seen n
-given-seen seen l n sound = go (ltb (l .size) (room Command))
+given-seen : (seen : Seen) (l : LentEvent) (n : ℕ) → Sound (seen .last) → says (stateSeen seen) l .word ≡ Unfinished n → GivenUp seen n
+given-seen seen l n sound = go (ltb (l .size) (room ToDevice))
   where
     taken : (o : Open) → Sound o → (h : Happening) → takes (stateSeen (record { commands = seen .commands; last = o })) h .word ≡ Unfinished n
         → GivenUp (record { commands = seen .commands; last = o }) n
@@ -77,7 +77,7 @@ given-seen seen l n sound = go (ltb (l .size) (room Command))
     go false w = taken (seen .last) sound (l .happens) w
 
 -- the theorem: Unfinished gives back how many times the command's frame was handed out, and that is five
-pub unfinished-is-five : (ls : List Lent) (l : Lent) (n : ℕ) → says (behind freshState ls) l .word ≡ Unfinished n → GivenUp (watched ls) n
+pub unfinished-is-five : (ls : List LentEvent) (l : LentEvent) (n : ℕ) → says (behind freshState ls) l .word ≡ Unfinished n → GivenUp (watched ls) n
 unfinished-is-five ls l n =
     subst (λ (s : State). says s l .word ≡ Unfinished n → GivenUp (watched ls) n) (sym (state-seen ls)) (given-seen (watched ls) l n (sound-seen ls))
 
@@ -87,7 +87,7 @@ waitingIn idle = false
 waitingIn (waits seq code bytes tries ear) = true
 
 abbrev Fits : Pending → Happening → Turn → Type 0
-Fits p h t = (ms : List Mark) → alternate (waitingIn p) (marksOf h (t .word) ++ ms) ≡ alternate (waitingIn (t .state .pending)) ms
+Fits p h t = (ms : List Name) → alternate (waitingIn p) (marksOf h (t .word) ++ ms) ≡ alternate (waitingIn (t .state .pending)) ms
 
 fits-failed : (next seq code : ℕ) (bytes : List ℕ) (tries : ℕ) (ear : Ear) (h : Happening)
     → Fits (waits seq code bytes tries ear) h (failsTry next seq code bytes tries)
@@ -104,7 +104,7 @@ fits-byte next seq code bytes tries ear b (goesOn q) ms = refl
 fits-byte next seq code bytes tries ear b (answers a) ms = refl
 
 fits-sent : (next code : ℕ) (content : List ℕ) → Fits idle (command code content) (onCommand (record { next = next; pending = idle }) idle code content)
-fits-sent next code content = go (sendable Command (commandOf next code content))
+fits-sent next code content = go (sendable ToDevice (commandOf next code content))
   where
     go : (s : Bool) → Fits idle (command code content) (cond s (sent next (commandOf next code content)) (stays NotSent (record { next = next; pending = idle })))
     go true ms = refl
@@ -118,19 +118,19 @@ fits-takes next (waits seq code bytes tries ear) (command other content) ms = re
 fits-takes next (waits seq code bytes tries ear) (byte b) ms = fits-byte next seq code bytes tries ear b (byteMeans seq code ear b) ms
 fits-takes next (waits seq code bytes tries ear) timeout ms = fits-failed next seq code bytes tries ear timeout ms
 
-fits-turn : (s : State) (l : Lent) → Fits (s .pending) (l .happens) (says s l)
-fits-turn s l = go (ltb (l .size) (room Command))
+fits-turn : (s : State) (l : LentEvent) → Fits (s .pending) (l .happens) (says s l)
+fits-turn s l = go (ltb (l .size) (room ToDevice))
   where
     go : (short : Bool) → Fits (s .pending) (l .happens) (cond short (stays TooShort s) (takes s (l .happens)))
     go true ms = refl
     go false ms = fits-takes (s .next) (s .pending) (l .happens) ms
 
-alternate-from : (ls : List Lent) (s : State) → alternate (waitingIn (s .pending)) (marks s ls) ≡ true
+alternate-from : (ls : List LentEvent) (s : State) → alternate (waitingIn (s .pending)) (marks s ls) ≡ true
 alternate-from [] s = refl
 alternate-from (l ∷ ls) s = fits-turn s l (marks (says s l .state) ls) ∙ alternate-from ls (says s l .state)
 
 -- the theorem: every command taken ends once, by Answered or Unfinished, before the next is taken; the last may still wait
-pub each-ends-once : (ls : List Lent) → alternate false (marks freshState ls) ≡ true
+pub each-ends-once : (ls : List LentEvent) → alternate false (marks freshState ls) ≡ true
 each-ends-once ls = alternate-from ls freshState
 
 -- between, no other command is taken: 8, and everything stays
@@ -173,9 +173,9 @@ module _ (next seq code : ℕ) (bytes : List ℕ) (tries : ℕ) (few : tries ≤
   ends-takes ear (byte b) = ends-byte b (byteMeans seq code ear b)
   ends-takes ear timeout = ends-failed timeout
 
-  ends-turn : (ear : Ear) (l : Lent)
-      → Ends-or next seq code bytes tries (cond (ltb (l .size) (room Command)) 0 (failureOf (waits seq code bytes tries ear) (l .happens))) (l .happens) (says (same-tries ear) l)
-  ends-turn ear l = go (ltb (l .size) (room Command))
+  ends-turn : (ear : Ear) (l : LentEvent)
+      → Ends-or next seq code bytes tries (cond (ltb (l .size) (room ToDevice)) 0 (failureOf (waits seq code bytes tries ear) (l .happens))) (l .happens) (says (same-tries ear) l)
+  ends-turn ear l = go (ltb (l .size) (room ToDevice))
     where
       go : (short : Bool) → Ends-or next seq code bytes tries (cond short 0 (failureOf (waits seq code bytes tries ear) (l .happens))) (l .happens)
           (cond short (stays TooShort (same-tries ear)) (takes (same-tries ear) (l .happens)))
@@ -183,12 +183,12 @@ module _ (next seq code : ℕ) (bytes : List ℕ) (tries : ℕ) (few : tries ≤
       go false = ends-takes ear (l .happens)
 
 -- and any list of events: it ends, or it waits on
-pub record Waits-through (s : State) (ls : List Lent) (next seq code : ℕ) (bytes : List ℕ) (tries : ℕ) : Type 0 where
+pub record Waits-through (s : State) (ls : List LentEvent) (next seq code : ℕ) (bytes : List ℕ) (tries : ℕ) : Type 0 where
   pub ear : Ear
   pub state : behind s ls ≡ record { next = next; pending = waits seq code bytes (tries + failures s ls) ear }
   pub few : tries + failures s ls ≤ 5
 
-pub waits-through : (ls : List Lent) (next seq code : ℕ) (bytes : List ℕ) (tries : ℕ) (ear : Ear) → tries ≤ 5
+pub waits-through : (ls : List LentEvent) (next seq code : ℕ) (bytes : List ℕ) (tries : ℕ) (ear : Ear) → tries ≤ 5
     → ends (marks (record { next = next; pending = waits seq code bytes tries ear }) ls) ≡ false
     → Waits-through (record { next = next; pending = waits seq code bytes tries ear }) ls next seq code bytes tries
 waits-through [] next seq code bytes tries ear few e =
@@ -197,7 +197,7 @@ waits-through (l ∷ ls) next seq code bytes tries ear few e =
     ⊎-elim
     (λ over. absurd (false≢true (sym e ∙ ap (λ z. ends (z ++ marks (says s l .state) ls)) over)))
     (λ on.
-    let f : ℕ = cond (ltb (l .size) (room Command)) 0 (failureOf (waits seq code bytes tries ear) (l .happens)) in
+    let f : ℕ = cond (ltb (l .size) (room ToDevice)) 0 (failureOf (waits seq code bytes tries ear) (l .happens)) in
     let rest : Waits-through (says s l .state) ls next seq code bytes (tries + f) =
     subst (λ (z : State). ends (marks z ls) ≡ false → Waits-through z ls next seq code bytes (tries + f)) (sym (on .state))
     (waits-through ls next seq code bytes (tries + f) (on .ear) (on .few))
@@ -214,7 +214,7 @@ waits-through (l ∷ ls) next seq code bytes tries ear few e =
     s = record { next = next; pending = waits seq code bytes tries ear }
 
 -- the theorem: a command whose frame was handed out once has ended once five tries have failed
-pub five-failed-tries-end : (ls : List Lent) (s : State) (seq code : ℕ) (bytes : List ℕ) (ear : Ear) → s .pending ≡ waits seq code bytes 1 ear
+pub five-failed-tries-end : (ls : List LentEvent) (s : State) (seq code : ℕ) (bytes : List ℕ) (ear : Ear) → s .pending ≡ waits seq code bytes 1 ear
     → 5 ≤ failures s ls → ends (marks s ls) ≡ true
 five-failed-tries-end ls s seq code bytes ear e =
     subst (λ (p : Pending). 5 ≤ failures (record { next = s .next; pending = p }) ls → ends (marks (record { next = s .next; pending = p }) ls) ≡ true) (sym e)
@@ -230,12 +230,12 @@ seq-may : (k : ℕ) → mayStand SeqOrCmd (seqOf k) ≡ true
 seq-may k = ap (λ s. s && leb (seqOf k) 0xFF) (le-leb 0x20 (seqOf k) (omega arith)) ∙ le-leb (seqOf k) 0xFF (omega arith)
 
 can-send : (k code : ℕ) (content : List ℕ)
-    → sendable Command (commandOf (seqOf k) code content) ≡ (mayStand SeqOrCmd code && leb (length content) 200 && every (mayStand Data) content)
+    → sendable ToDevice (commandOf (seqOf k) code content) ≡ (mayStand SeqOrCmd code && leb (length content) 200 && every (mayStand Data) content)
 can-send k code content =
     sendable-command (seqOf k) code content
     ∙ ap (λ s. s && mayStand SeqOrCmd code && leb (length content) 200 && every (mayStand Data) content) (seq-may k)
 
-pub taken-exactly : (ls : List Lent) (size code : ℕ) (content : List ℕ) → 210 ≤ size → watched ls .last ≡ none
+pub taken-exactly : (ls : List LentEvent) (size code : ℕ) (content : List ℕ) → 210 ≤ size → watched ls .last ≡ none
     → hears size (behind freshState ls) (command code content)
     ≡ cond (mayStand SeqOrCmd code && leb (length content) 200 && every (mayStand Data) content)
     (sent (seqOf (watched ls .commands)) (commandOf (seqOf (watched ls .commands)) code content)) (stays NotSent (behind freshState ls))
@@ -253,18 +253,18 @@ taken-exactly ls size code content big e =
     fits = mayStand SeqOrCmd code && leb (length content) 200 && every (mayStand Data) content
 
 -- what is seen with one event more
-watch-snoc : (ls : List Lent) (seen : Seen) (s : State) (l : Lent) → watch seen s (ls ++ l ∷ []) ≡ noted (watch seen s ls) (l .happens) (says (behind s ls) l)
+watch-snoc : (ls : List LentEvent) (seen : Seen) (s : State) (l : LentEvent) → watch seen s (ls ++ l ∷ []) ≡ noted (watch seen s ls) (l .happens) (says (behind s ls) l)
 watch-snoc [] seen s l = refl
 watch-snoc (x ∷ ls) seen s l = watch-snoc ls (noted seen (x .happens) (says s x)) (says s x .state) l
 
 -- behind Unfinished no command waits
-pub unfinished-over : (ls : List Lent) (l : Lent) (n : ℕ) → says (behind freshState ls) l .word ≡ Unfinished n → watched (ls ++ l ∷ []) .last ≡ none
+pub unfinished-over : (ls : List LentEvent) (l : LentEvent) (n : ℕ) → says (behind freshState ls) l .word ≡ Unfinished n → watched (ls ++ l ∷ []) .last ≡ none
 unfinished-over ls l n e =
     ap (λ (z : Seen). z .last) (watch-snoc ls nothingSeen freshState l)
     ∙ ap (λ w. onWord (watched ls) (l .happens) w (says (behind freshState ls) l .puts) .last) e
 
 -- so an answer that comes after the fifth failed try is heard by nobody
-pub too-late : (ls : List Lent) (l : Lent) (n : ℕ) → says (behind freshState ls) l .word ≡ Unfinished n → (size b : ℕ) → 210 ≤ size
+pub too-late : (ls : List LentEvent) (l : LentEvent) (n : ℕ) → says (behind freshState ls) l .word ≡ Unfinished n → (size b : ℕ) → 210 ≤ size
     → says (behind freshState (ls ++ l ∷ [])) (record { size = size; happens = byte b }) ≡ stays Idle (behind freshState (ls ++ l ∷ []))
 too-late ls l n e size b big =
     none-idle (ls ++ l ∷ []) size (byte b) (unfinished-over ls l n e) big (λ code content q. let z : _≡_ {A = ℕ} 0 1 = cc in omega arith)

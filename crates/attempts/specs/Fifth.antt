@@ -6,12 +6,12 @@ use mathlib.Core.List.{List, [], _∷_, _++_}
 use mathlib.Core.Logic.{_⊎_}
 use lib.Dec.{ltb}
 use Rattle.till.specs.Turns.{State, freshState, Happening, command, byte, timeout, Turn, stays}
-use Rattle.attempts.specs.History.{Lent, says, behind, took, marksOf, marks, ends, failures}
+use Rattle.attempts.specs.History.{LentEvent, says, behind, took, marksOf, marks, ends, failures}
 use Rattle.till.specs.declared.Word.{Word}
 use Rattle.till.specs.declared.Word.the-variants.{Idle, Waiting, TooShort, NotSent}
 
 -- `before`: any events; `taken`: a command that says Waiting; `during`: four tries fail, and the command does not end; `fifth`: one more fails
-pub record FifthFails (before : List Lent) (taken : Lent) (during : List Lent) (fifth : Lent) : Type 0 where
+pub record FifthFails (before : List LentEvent) (taken : LentEvent) (during : List LentEvent) (fifth : LentEvent) : Type 0 where
   pub code : ℕ
   pub content : List ℕ
   pub count : ℕ
@@ -27,10 +27,10 @@ restWord (command code content) = NotSent
 restWord (byte b) = Idle
 restWord timeout = Idle
 
-abbrev pub atRest : State → Lent → Turn
+abbrev pub atRest : State → LentEvent → Turn
 atRest s l = stays (cond (ltb (l .size) 210) TooShort (restWord (l .happens))) s
 
 -- PROTOCOL 7.4: event after event puts no byte and changes nothing, until the next command is taken
-abbrev pub restsUntilTaken : State → List Lent → Type 0
+abbrev pub restsUntilTaken : State → List LentEvent → Type 0
 restsUntilTaken s [] = Unit {0}
 restsUntilTaken s (l ∷ ls) = ((says s l ≡ atRest s l) × restsUntilTaken s ls) ⊎ (marksOf (l .happens) (says s l .word) ≡ took ∷ [])

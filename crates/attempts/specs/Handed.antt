@@ -4,7 +4,7 @@ use mathlib.Core.Path.{_≡_}
 use mathlib.Core.List.{List, [], _∷_, _++_}
 use Rattle.wire.specs.Frame.{Message, commandOf}
 use Rattle.till.specs.Turns.{State, freshState, Happening, command, byte, timeout}
-use Rattle.attempts.specs.History.{Lent, says, seqOf}
+use Rattle.attempts.specs.History.{LentEvent, says, seqOf}
 use Rattle.attempts.specs.Promises.{Tried}
 use Rattle.till.specs.declared.Word.{Word}
 use Rattle.till.specs.declared.Word.the-variants.{Idle, Waiting, SendAgain, Answered, Unfinished, TooShort, NotSent}
@@ -34,7 +34,7 @@ handsOut h (Unfinished tries) puts = noFrame
 handsOut h TooShort puts = noFrame
 handsOut h NotSent puts = noFrame
 
-abbrev pub handedAt : State → Lent → HandsOut
+abbrev pub handedAt : State → LentEvent → HandsOut
 handedAt s l = handsOut (l .happens) (says s l .word) (says s l .puts)
 
 -- the frames handed out until the next command is taken
@@ -43,7 +43,7 @@ untilNext noFrame later = later
 untilNext (firstFrame code content bytes) later = []
 untilNext (frameAgain bytes) later = bytes ∷ later
 
-abbrev pub handedAgainIn : State → List Lent → List (List ℕ)
+abbrev pub handedAgainIn : State → List LentEvent → List (List ℕ)
 handedAgainIn s [] = []
 handedAgainIn s (l ∷ ls) = untilNext (handedAt s l) (handedAgainIn (says s l .state) ls)
 
@@ -54,14 +54,14 @@ withCommand (firstFrame code content bytes) before again rest =
     record { command = commandOf (seqOf before) code content; frames = bytes ∷ again } ∷ rest (before + 1)
 withCommand (frameAgain bytes) before again rest = rest before
 
-abbrev pub handedFrom : ℕ → State → List Lent → List Handed
+abbrev pub handedFrom : ℕ → State → List LentEvent → List Handed
 handedFrom before s [] = []
 handedFrom before s (l ∷ ls) =
     let next = says s l .state in
     withCommand (handedAt s l) before (handedAgainIn next ls) (λ count. handedFrom count next ls)
 
 -- of a fresh till end
-abbrev pub handedIn : List Lent → List Handed
+abbrev pub handedIn : List LentEvent → List Handed
 handedIn ls = handedFrom 0 freshState ls
 
 -- PROTOCOL 7.3, 7.6: each command can be sent, its frames are all its own, one to five, and its SEQ is that of its place
@@ -79,7 +79,7 @@ frameIn noFrame = []
 frameIn (firstFrame code content bytes) = bytes ∷ []
 frameIn (frameAgain bytes) = bytes ∷ []
 
-abbrev pub framesIn : State → List Lent → List (List ℕ)
+abbrev pub framesIn : State → List LentEvent → List (List ℕ)
 framesIn s [] = []
 framesIn s (l ∷ ls) = frameIn (handedAt s l) ++ framesIn (says s l .state) ls
 

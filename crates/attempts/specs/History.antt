@@ -5,25 +5,25 @@ use mathlib.Core.List.{List, [], _∷_, _++_}
 use lib.Dec.{ltb}
 use Rattle.wire.specs.Frame.{Message, commandOf}
 use Rattle.wire.specs.Replies.{room}
-use Rattle.wire.specs.declared.Kind.the-variants.{Command}
+use Rattle.wire.specs.declared.Way.the-variants.{ToDevice}
 use Rattle.till.specs.Turns.{Pending, idle, waits, State, freshState, Happening, command, byte, timeout, Turn, Meaning, failed, goesOn, answers, byteMeans, hears}
 use Rattle.till.specs.declared.Word.{Word}
 use Rattle.till.specs.declared.Word.the-variants.{Idle, Waiting, SendAgain, Answered, Unfinished, TooShort, NotSent}
 
 -- PROTOCOL 2.4: an event, with the length of the buffer lent with it
-pub record Lent : Type 0 where
+pub record LentEvent : Type 0 where
   pub size : ℕ
   pub happens : Happening
 
-abbrev pub says : State → Lent → Turn
+abbrev pub says : State → LentEvent → Turn
 says s l = hears (l .size) s (l .happens)
 
 -- the till end behind a list of events, and what it said of each
-abbrev pub behind : State → List Lent → State
+abbrev pub behind : State → List LentEvent → State
 behind s [] = s
 behind s (l ∷ ls) = behind (says s l .state) ls
 
-abbrev pub history : State → List Lent → List Turn
+abbrev pub history : State → List LentEvent → List Turn
 history s [] = []
 history s (l ∷ ls) = says s l ∷ history (says s l .state) ls
 
@@ -73,12 +73,12 @@ onWord seen h NotSent puts = seen
 abbrev pub noted : Seen → Happening → Turn → Seen
 noted seen h turn = onWord seen h (turn .word) (turn .puts)
 
-abbrev pub watch : Seen → State → List Lent → Seen
+abbrev pub watch : Seen → State → List LentEvent → Seen
 watch seen s [] = seen
 watch seen s (l ∷ ls) = watch (noted seen (l .happens) (says s l)) (says s l .state) ls
 
 -- what is seen of a fresh till end's history
-abbrev pub watched : List Lent → Seen
+abbrev pub watched : List LentEvent → Seen
 watched ls = watch nothingSeen freshState ls
 
 -- PROTOCOL 7.2, 7.6, 7.7: a command taken, and a command ended, in the order in which they were said
@@ -100,7 +100,7 @@ marksOf h (Unfinished tries) = ended ∷ []
 marksOf h TooShort = []
 marksOf h NotSent = []
 
-abbrev pub marks : State → List Lent → List Mark
+abbrev pub marks : State → List LentEvent → List Mark
 marks s [] = []
 marks s (l ∷ ls) = marksOf (l .happens) (says s l .word) ++ marks (says s l .state) ls
 
@@ -129,12 +129,12 @@ failureOf (waits seq code bytes tries ear) (command sentCode content) = 0
 failureOf (waits seq code bytes tries ear) (byte b) = failure (byteMeans seq code ear b)
 failureOf (waits seq code bytes tries ear) timeout = 1
 
-abbrev pub failures : State → List Lent → ℕ
+abbrev pub failures : State → List LentEvent → ℕ
 failures s [] = 0
-failures s (l ∷ ls) = cond (ltb (l .size) (room Command)) 0 (failureOf (s .pending) (l .happens)) + failures (says s l .state) ls
+failures s (l ∷ ls) = cond (ltb (l .size) (room ToDevice)) 0 (failureOf (s .pending) (l .happens)) + failures (says s l .state) ls
 
 -- the bytes of the line, each with 210 bytes lent
-abbrev pub heardBytes : List ℕ → List Lent
+abbrev pub heardBytes : List ℕ → List LentEvent
 heardBytes [] = []
 heardBytes (b ∷ bs) = record { size = 210; happens = byte b } ∷ heardBytes bs
 

@@ -11,7 +11,7 @@ use Rattle.wire.specs.Frame.{Message, commandOf, answerOf, frame}
 use Rattle.wire.specs.Replies.{replyOf, sealing}
 use Rattle.wire.specs.declared.Built.{Built}
 use Rattle.wire.specs.declared.Built.the-variants as built
-use Rattle.wire.specs.declared.Kind.the-variants.{Answer}
+use Rattle.wire.specs.declared.Way.the-variants.{ToTill}
 use Rattle.wire.proofs.Building.{length-enclosed, around, seal-done}
 use Rattle.command.specs.Commands.{parsedOf}
 use Rattle.books.specs.declared.Books.{Books}
@@ -33,7 +33,7 @@ reply-buffer built.Unsendable l = refl
 module _ (l content status made : List ℕ) (seq code n : ℕ) (b1 b2 : List ℕ) (b : Built) (room : 217 ≤ length l) (few : length content ≤ 200) (six : length status ≡ 6)
     (en : n ≡ length content) (e1 : b1 ≡ sets l 4 content) (es : made ≡ status) (em : replyOf b b2 ≡ sealing b1 seq code n made) where
   abbrev answer : List ℕ
-  answer = frame Answer (answerOf seq code content status)
+  answer = frame ToTill (answerOf seq code content status)
 
   eb : replyOf b b2 ≡ sealing b1 seq code n status
   eb = em ∙ ap (sealing b1 seq code n) es
@@ -42,7 +42,7 @@ module _ (l content status made : List ℕ) (seq code n : ℕ) (b1 b2 : List ℕ
   long = ap length e1 ∙ length-sets l 4 content
 
   sealed : sealing b1 seq code n status
-      ≡ record { number = 0; count = length (frame Answer (answerOf seq code (take n (drop 4 b1)) status)); buffer = sets b1 0 (frame Answer (answerOf seq code (take n (drop 4 b1)) status)) }
+      ≡ record { number = 0; count = length (frame ToTill (answerOf seq code (take n (drop 4 b1)) status)); buffer = sets b1 0 (frame ToTill (answerOf seq code (take n (drop 4 b1)) status)) }
   sealed = seal-done b1 seq code n status (omega (arith, long)) (omega (arith, en))
 
   stands : length (take n (drop 4 b1)) ≡ n
@@ -51,7 +51,7 @@ module _ (l content status made : List ℕ) (seq code n : ℕ) (b1 b2 : List ℕ
   answer-size : length answer ≡ length content + 17
   answer-size = length-enclosed seq code (content ++ 0x04 ∷ status) ∙ omega (arith, length-append content (0x04 ∷ status), six)
 
-  made-size : length (frame Answer (answerOf seq code (take n (drop 4 b1)) status)) ≡ n + 17
+  made-size : length (frame ToTill (answerOf seq code (take n (drop 4 b1)) status)) ≡ n + 17
   made-size = length-enclosed seq code (take n (drop 4 b1) ++ 0x04 ∷ status) ∙ omega (arith, length-append (take n (drop 4 b1)) (0x04 ∷ status), six, stands)
 
   pub seal-size : (sizeOf b ≡ length answer) × (sizeOf b ≤ 217)
@@ -62,15 +62,15 @@ module _ (l content status made : List ℕ) (seq code n : ℕ) (b1 b2 : List ℕ
   pub seal-bytes : b2 ≡ sets l 0 answer
   seal-bytes =
       around l content seq code (λ z. z ++ 0x04 ∷ status) (omega (arith, length-append content (0x04 ∷ status))) (omega (arith, length-append content (0x04 ∷ status), six)) b1 b2 e1
-      (sym (reply-buffer b b2) ∙ ap (λ r. r .buffer) (eb ∙ sealed) ∙ ap (λ k. sets b1 0 (frame Answer (answerOf seq code (take k (drop 4 b1)) status))) en)
+      (sym (reply-buffer b b2) ∙ ap (λ r. r .buffer) (eb ∙ sealed) ∙ ap (λ k. sets b1 0 (frame ToTill (answerOf seq code (take k (drop 4 b1)) status))) en)
 
 -- what the books did, as work
 pub work-is : (b : Books) (seq code : ℕ) (content : List ℕ) (d : Deed) → d ≡ deedFor b (parsedOf code content) → (size : ℕ) (l b2 : List ℕ)
-    → size ≡ length (frame Answer (answerTo b seq code d)) → b2 ≡ sets l 0 (frame Answer (answerTo b seq code d))
+    → size ≡ length (frame ToTill (answerTo b seq code d)) → b2 ≡ sets l 0 (frame ToTill (answerTo b seq code d))
     → record { work = record { number = d .number; books = d .books; count = size }; buffer = b2 } ≡ workDone (carry (record { books = b }) (commandOf seq code content)) l
 work-is b seq code content d ed size l b2 es e2 =
     ap (λ z. record { work = record { number = d .number; books = d .books; count = z }; buffer = b2 }) es
-    ∙ ap (λ z. record { work = record { number = d .number; books = d .books; count = length (frame Answer (answerTo b seq code d)) }; buffer = z }) e2
+    ∙ ap (λ z. record { work = record { number = d .number; books = d .books; count = length (frame ToTill (answerTo b seq code d)) }; buffer = z }) e2
     ∙ ap (λ z. workDone (carriedAs (record { books = b }) seq code z) l) ed
 
 -- with the buffer's length known

@@ -2,7 +2,7 @@
 use Prim.Native.Nat.{ℕ}
 use mathlib.Core.List.{[]}
 use Rattle.wire.specs.Frame.{Message, answerOf, frame}
-use Rattle.wire.specs.declared.Kind.the-variants.{Answer}
+use Rattle.wire.specs.declared.Way.the-variants.{ToTill}
 use Rattle.kinds.specs.Fields.{parsedNumber}
 use Rattle.kinds.specs.declared.Parsed.{Parsed}
 use Rattle.kinds.specs.declared.Parsed.the-variants.{Read, Syntax, Unknown}
@@ -25,10 +25,10 @@ deedFor b Unknown = refusedWith (parsedNumber Unknown) b
 abbrev pub answerTo : Books → ℕ → ℕ → Deed → Message
 answerTo b seq code d = answerOf seq code (contentOf (d .shown) (b .day) (d .books)) (statusOf (d .number) (d .books))
 
--- DECISIONS 62: no answer has a lead
+-- DECISIONS 63: no answer has a lead
 abbrev pub carriedAs : Store → ℕ → ℕ → Deed → Carried Store
 carriedAs s seq code d =
-    record { number = d .number; store = record { books = d .books }; lead = []; answer = frame Answer (answerTo (s .books) seq code d) }
+    record { number = d .number; store = record { books = d .books }; lead = []; answer = frame ToTill (answerTo (s .books) seq code d) }
 
 -- PROTOCOL 1.11: a command carried out on what a device remembers
 abbrev pub carry : Store → Message → Carried Store

@@ -2,6 +2,7 @@
 use books::Books;
 use deeds::Deed;
 use kinds::Parsed;
+use wire::ANSWER_ROOM;
 use wire::Built;
 use wire::build;
 ghost use mathlib.Core.Path.{_≡_};
@@ -23,7 +24,7 @@ pub fn carry_out(books: Books, seq: u8, code: u8, content: &[u8], buf: &mut [u8]
     ensures { λ r. ⌜ record { work = r; buffer = now (buf .exit) } ≡ worked books (commandOf seq code (now (content .entry))) (now (buf .entry)) ⌝ }
     ensures { λ r. ⌜ r .count ≤ 217 ⌝ }
 {
-    if buf.len() < 217 {
+    if buf.len() < ANSWER_ROOM {
         return Work {
             number: 7,
             books,

@@ -3,7 +3,7 @@ use Prim.Native.Nat.{ℕ}
 use mathlib.Core.Bool.{cond}
 use mathlib.Core.List.{List, []}
 use lib.Dec.{eqb}
-use Rattle.lines.specs.Texts.{onlyLine, firstLine, secondLine}
+use Rattle.labels.specs.Texts.{onlyLine, firstLine, secondLine}
 use Rattle.kinds.specs.Plain.{bareOf, textOf, openOf, subtotalOf, sumsOf, closingOf}
 use Rattle.command.specs.Money.{sellOf, payOf, drawerOf}
 use Rattle.kinds.specs.declared.Command.the-variants.{OpenText, CloseText, Close, Cancel, Status, Rates}

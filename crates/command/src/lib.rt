@@ -35,8 +35,8 @@ pub fn first_text(code: u8, bytes: &[u8]) -> &[u8]
     ensures { λ r. ⌜ now r ≡ firstText code (now (bytes .entry)) ⌝ }
 {
     match code {
-        42 => lines::only_line(bytes),
-        49 | 53 => lines::first_line(bytes),
+        42 => labels::only_line(bytes),
+        49 | 53 => labels::first_line(bytes),
         _ => &bytes[..0],
     }
 }
@@ -46,7 +46,7 @@ pub fn second_text(code: u8, bytes: &[u8]) -> &[u8]
     ensures { λ r. ⌜ now r ≡ secondText code (now (bytes .entry)) ⌝ }
 {
     match code {
-        49 | 53 => lines::second_line(bytes),
+        49 | 53 => labels::second_line(bytes),
         _ => &bytes[..0],
     }
 }

@@ -9,7 +9,7 @@ use lib.Dec.{ltb, eqb}
 use lib.ListN.{length}
 use borrow.Author.Tests.{eqb-true, ne-eqb, not-true}
 use Rattle.wire.specs.Frame.{Message, frame, sendable}
-use Rattle.wire.specs.declared.Kind.the-variants.{Command}
+use Rattle.wire.specs.declared.Way.the-variants.{ToDevice}
 use Rattle.wire.proofs.Suits.{both}
 use Rattle.reader.specs.Reading.{outside, Event, nothing, brokenFrame, heard}
 use Rattle.reader.proofs.RoundTrip.{frame-size}
@@ -60,7 +60,7 @@ messages-append (heard m ∷ xs) ys = ap (λ z. m ∷ z) (messages-append xs ys)
 -- what all tries bring, and leave begun
 abbrev triesBrought : Begun → Message → List Arrival → List Event
 triesBrought b m [] = []
-triesBrought b m (a ∷ rest) = brings Command b m a ++ triesBrought (leaves Command b m a) m rest
+triesBrought b m (a ∷ rest) = brings ToDevice b m a ++ triesBrought (leaves ToDevice b m a) m rest
 
 abbrev allBrought : Begun → List Sent → List Event
 allBrought b [] = []
@@ -73,8 +73,8 @@ allLeave b (c ∷ cs) = allLeave (triesLeave b (c .command) (c .tries)) cs
 tries-heard : (tries : List Arrival) (b : Begun) (m : Message) → messages (triesBrought b m tries) ≡ triesHeard b m tries
 tries-heard [] b m = refl
 tries-heard (a ∷ rest) b m =
-    messages-append (brings Command b m a) (triesBrought (leaves Command b m a) m rest)
-    ∙ ap (λ z. messages (brings Command b m a) ++ z) (tries-heard rest (leaves Command b m a) m)
+    messages-append (brings ToDevice b m a) (triesBrought (leaves ToDevice b m a) m rest)
+    ∙ ap (λ z. messages (brings ToDevice b m a) ++ z) (tries-heard rest (leaves ToDevice b m a) m)
 
 all-heard : (cs : List Sent) (b : Begun) → messages (allBrought b cs) ≡ allHeard b cs
 all-heard [] b = refl
@@ -105,11 +105,11 @@ module _ {B : Type 0} (carry : B → Message → Carried B) where
   -- bytes that are answered as these events, and leave that begun
   abbrev Brought : Begun → List ℕ → List Event → Begun → Type 0
   Brought b bytes es next =
-      (before : Before) (store : B) → session carry (device (standsAt Command b) before store) bytes ≡ endingAt (standsAt Command next) (reacts carry before store es)
+      (before : Before) (store : B) → session carry (device (standsAt ToDevice b) before store) bytes ≡ endingAt (standsAt ToDevice next) (reacts carry before store es)
 
   brought-append : (b mid next : Begun) (xs ys : List ℕ) (es fs : List Event) → Brought b xs es mid → Brought mid ys fs next → Brought b (xs ++ ys) (es ++ fs) next
   brought-append b mid next xs ys es fs one two before store =
-      let s : State B = device (standsAt Command b) before store in
+      let s : State B = device (standsAt ToDevice b) before store in
       let r = reacts carry before store es in
       session-append carry s xs ys
       ∙ ap (λ (z : Session B). record {
@@ -118,28 +118,28 @@ module _ {B : Type 0} (carry : B → Message → Carried B) where
         state = session carry (z .state) ys .state;
       }) (one before store)
       ∙ ap (λ (z : Session B). record { gives = r .gives ++ z .gives; carried = r .carried ++ z .carried; state = z .state }) (two (r .before) (r .store))
-      ∙ ap (endingAt (standsAt Command next)) (sym (reacts-append es fs before store))
+      ∙ ap (endingAt (standsAt ToDevice next)) (sym (reacts-append es fs before store))
 
-  tries-brought : (m : Message) → sendable Command m ≡ true → (tries : List Arrival) → all (mayArrive (frame Command m)) tries ≡ true → (b : Begun) → Fits Command b
-      → Brought b (triesArriving (frame Command m) tries) (triesBrought b m tries) (triesLeave b m tries) × Fits Command (triesLeave b m tries)
+  tries-brought : (m : Message) → sendable ToDevice m ≡ true → (tries : List Arrival) → all (mayArrive (frame ToDevice m)) tries ≡ true → (b : Begun) → Fits ToDevice b
+      → Brought b (triesArriving (frame ToDevice m) tries) (triesBrought b m tries) (triesLeave b m tries) × Fits ToDevice (triesLeave b m tries)
   tries-brought m can [] e b f = ((λ before store. refl), f)
   tries-brought m can (a ∷ rest) e b f =
-      let sent = frame Command m in
+      let sent = frame ToDevice m in
       let two = both (mayArrive sent a) (all (mayArrive sent) rest) e in
-      let mid = leaves Command b m a in
-      let others = tries-brought m can rest (two .1) mid (try-read Command m can a (two .0) b f .fits) in (
-        brought-append b mid (triesLeave mid m rest) (arriving sent a) (triesArriving sent rest) (brings Command b m a) (triesBrought mid m rest)
+      let mid = leaves ToDevice b m a in
+      let others = tries-brought m can rest (two .1) mid (try-read ToDevice m can a (two .0) b f .fits) in (
+        brought-append b mid (triesLeave mid m rest) (arriving sent a) (triesArriving sent rest) (brings ToDevice b m a) (triesBrought mid m rest)
             (any-try carry m can a (two .0) b f) (others .0),
         others .1,
       )
 
-  all-brought : (cs : List Sent) → allMayCome cs ≡ true → (b : Begun) → Fits Command b → Brought b (allArriving cs) (allBrought b cs) (allLeave b cs)
+  all-brought : (cs : List Sent) → allMayCome cs ≡ true → (b : Begun) → Fits ToDevice b → Brought b (allArriving cs) (allBrought b cs) (allLeave b cs)
   all-brought [] e b f = λ before store. refl
   all-brought (c ∷ cs) e b f =
       let m = c .command in
-      let sent = frame Command m in
+      let sent = frame ToDevice m in
       let two = both (mayCome c) (allMayCome cs) e in
-      let own = both (sendable Command m) (all (mayArrive sent) (c .tries)) (two .0) in
+      let own = both (sendable ToDevice m) (all (mayArrive sent) (c .tries)) (two .0) in
       let first = tries-brought m (own .0) (c .tries) (own .1) b f in
       let mid = triesLeave b m (c .tries) in
       brought-append b mid (allLeave mid cs) (triesArriving sent (c .tries)) (allArriving cs) (triesBrought b m (c .tries)) (allBrought mid cs)
@@ -195,7 +195,7 @@ allWholes (c ∷ cs) = wholes (c .command) (c .tries) ++ allWholes cs
 
 abbrev LacksMore : Begun → Type 0
 LacksMore clear = Unit {0}
-LacksMore (begun n count) = eqb (count + 1) (length (frame Command n)) ≡ false
+LacksMore (begun n count) = eqb (count + 1) (length (frame ToDevice n)) ≡ false
 
 pub start-silent : (b : Begun) (es : List Event) → messages (startBrings b ++ es) ≡ messages es
 start-silent clear es = refl
@@ -212,40 +212,40 @@ damage-silent size at byte = go (eqb byte 0x01 && (ltb 1 at && ltb (at + 1) size
     go true = refl
     go false = refl
 
-lost-silent : (b : Begun) (byte : ℕ) → LacksMore b → messages (lostStartBrings Command b byte) ≡ []
+lost-silent : (b : Begun) (byte : ℕ) → LacksMore b → messages (lostStartBrings ToDevice b byte) ≡ []
 lost-silent clear byte l = refl
-lost-silent (begun n count) byte l = go (eqb byte 0x03) (eqb (count + 1) (length (frame Command n))) l
+lost-silent (begun n count) byte l = go (eqb byte 0x03) (eqb (count + 1) (length (frame ToDevice n))) l
   where
     go : (s t : Bool) → t ≡ false → messages (cond (s && t) (heard n ∷ []) (brokenFrame ∷ [])) ≡ []
     go true true e = absurd (false≢true (sym e))
     go true false e = refl
     go false t e = refl
 
-try-heard : (m : Message) (a : Arrival) (b : Begun) → LacksMore b → messages (brings Command b m a) ≡ cond (isWhole a) (m ∷ []) []
+try-heard : (m : Message) (a : Arrival) (b : Begun) → LacksMore b → messages (brings ToDevice b m a) ≡ cond (isWhole a) (m ∷ []) []
 try-heard m whole b l = start-silent b (heard m ∷ [])
 try-heard m (replaced zero byte) b l = lost-silent b byte l
 try-heard m (replaced (suc i) byte) b l =
-    start-silent b (damageBrings (length (frame Command m)) (suc i) byte) ∙ damage-silent (length (frame Command m)) (suc i) byte
+    start-silent b (damageBrings (length (frame ToDevice m)) (suc i) byte) ∙ damage-silent (length (frame ToDevice m)) (suc i) byte
 try-heard m (cut zero) b l = refl
 try-heard m (cut (suc n)) b l = ap messages (sym (append-nil (startBrings b))) ∙ start-silent b []
 
-try-lacks : (m : Message) → sendable Command m ≡ true → (a : Arrival) → not (lacksLast m a) ≡ true → (b : Begun) → LacksMore b → LacksMore (leaves Command b m a)
+try-lacks : (m : Message) → sendable ToDevice m ≡ true → (a : Arrival) → not (lacksLast m a) ≡ true → (b : Begun) → LacksMore b → LacksMore (leaves ToDevice b m a)
 try-lacks m can whole e b l = tt
-try-lacks m can (replaced at byte) e b l = go (eqb byte 0x01 && eqb (at + 1) (length (frame Command m)))
+try-lacks m can (replaced at byte) e b l = go (eqb byte 0x01 && eqb (at + 1) (length (frame ToDevice m)))
   where
     go : (t : Bool) → LacksMore (cond t (begun m 1) clear)
-    go true = ne-eqb (1 + 1) (length (frame Command m)) (λ q. omega (arith, frame-size Command m can .0))
+    go true = ne-eqb (1 + 1) (length (frame ToDevice m)) (λ q. omega (arith, frame-size ToDevice m can .0))
     go false = tt
 try-lacks m can (cut zero) e b l = l
-try-lacks m can (cut (suc n)) e b l = not-true (eqb (suc n + 1) (length (frame Command m))) e
+try-lacks m can (cut (suc n)) e b l = not-true (eqb (suc n + 1) (length (frame ToDevice m))) e
 
-tries-whole : (m : Message) → sendable Command m ≡ true → (tries : List Arrival) → all (λ a. not (lacksLast m a)) tries ≡ true → (b : Begun) → LacksMore b
+tries-whole : (m : Message) → sendable ToDevice m ≡ true → (tries : List Arrival) → all (λ a. not (lacksLast m a)) tries ≡ true → (b : Begun) → LacksMore b
     → (triesHeard b m tries ≡ wholes m tries) × LacksMore (triesLeave b m tries)
 tries-whole m can [] e b l = (refl, l)
 tries-whole m can (a ∷ rest) e b l =
     let two = both (not (lacksLast m a)) (all (λ a. not (lacksLast m a)) rest) e in
-    let others = tries-whole m can rest (two .1) (leaves Command b m a) (try-lacks m can a (two .0) b l) in (
-      ap (λ z. z ++ triesHeard (leaves Command b m a) m rest) (try-heard m a b l) ∙ ap (λ z. cond (isWhole a) (m ∷ []) [] ++ z) (others .0),
+    let others = tries-whole m can rest (two .1) (leaves ToDevice b m a) (try-lacks m can a (two .0) b l) in (
+      ap (λ z. z ++ triesHeard (leaves ToDevice b m a) m rest) (try-heard m a b l) ∙ ap (λ z. cond (isWhole a) (m ∷ []) [] ++ z) (others .0),
       others .1,
     )
 
@@ -254,7 +254,7 @@ all-whole [] e f b l = refl
 all-whole (c ∷ cs) e f b l =
     let m = c .command in
     let may = both (mayCome c) (allMayCome cs) e in
-    let can = both (sendable Command m) (all (mayArrive (frame Command m)) (c .tries)) (may .0) in
+    let can = both (sendable ToDevice m) (all (mayArrive (frame ToDevice m)) (c .tries)) (may .0) in
     let two = both (all (λ a. not (lacksLast m a)) (c .tries)) (noneLacksLast cs) f in
     let own = tries-whole m (can .0) (c .tries) (two .0) b l in
     ap (λ z. z ++ allHeard (triesLeave b m (c .tries)) cs) (own .0)

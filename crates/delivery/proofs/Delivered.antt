@@ -8,7 +8,7 @@ use lib.Dec.{ltb, eqb}
 use lib.ListN.{length}
 use borrow.Author.Tests.{eq-eqb, not-true}
 use Rattle.wire.specs.Frame.{Message, frame, sendable}
-use Rattle.wire.specs.declared.Kind.the-variants.{Command}
+use Rattle.wire.specs.declared.Way.the-variants.{ToDevice}
 use Rattle.wire.proofs.Suits.{both}
 use Rattle.reader.specs.Reading.{Event, nothing, brokenFrame, heard, run}
 use Rattle.line.specs.Turns.{Before, none, was, State, Carried, Turn, Session, switchedOn, repeats, lastAnswer, session}
@@ -48,19 +48,19 @@ new-none (c ∷ cs) = refl
 
 module _ {B : Type 0} (carry : B → Message → Carried B) where
   -- any try, at any device: what it brings, answered
-  pub any-try : (m : Message) → sendable Command m ≡ true → (a : Arrival) → mayArrive (frame Command m) a ≡ true → (b : Begun) → Fits Command b → (before : Before) (store : B)
-      → session carry (device (standsAt Command b) before store) (arriving (frame Command m) a)
-      ≡ endingAt (standsAt Command (leaves Command b m a)) (reacts carry before store (brings Command b m a))
+  pub any-try : (m : Message) → sendable ToDevice m ≡ true → (a : Arrival) → mayArrive (frame ToDevice m) a ≡ true → (b : Begun) → Fits ToDevice b → (before : Before) (store : B)
+      → session carry (device (standsAt ToDevice b) before store) (arriving (frame ToDevice m) a)
+      ≡ endingAt (standsAt ToDevice (leaves ToDevice b m a)) (reacts carry before store (brings ToDevice b m a))
   any-try m can a e b f before store =
-      let r = try-read Command m can a e b f in
-      let bytes = arriving (frame Command m) a in
-      let heard-so : Reaction B = reacts carry before store (news (run Command (standsAt Command b) bytes .events)) in
-      session-news carry bytes (standsAt Command b) before store
+      let r = try-read ToDevice m can a e b f in
+      let bytes = arriving (frame ToDevice m) a in
+      let heard-so : Reaction B = reacts carry before store (news (run ToDevice (standsAt ToDevice b) bytes .events)) in
+      session-news carry bytes (standsAt ToDevice b) before store
       ∙ ap (λ p. endingAt p heard-so) (r .place-is)
-      ∙ ap (λ es. endingAt (standsAt Command (leaves Command b m a)) (reacts carry before store es)) (r .news-are)
+      ∙ ap (λ es. endingAt (standsAt ToDevice (leaves ToDevice b m a)) (reacts carry before store es)) (r .news-are)
 
   -- one command, from the frame before and the store that it finds; `done` says whether it was carried out
-  module _ (m : Message) (can : sendable Command m ≡ true) (first : Before) (new : repeats first m ≡ false) (store : B) where
+  module _ (m : Message) (can : sendable ToDevice m ≡ true) (first : Before) (new : repeats first m ≡ false) (store : B) where
     abbrev k : Carried B
     k = carry store m
 
@@ -144,9 +144,9 @@ module _ {B : Type 0} (carry : B → Message → Carried B) where
         go true = h
         go false = h
 
-    known-lost : (byte : ℕ) (b : Begun) (done : Bool) → Ours done b → Known done (lostStartBrings Command b byte)
+    known-lost : (byte : ℕ) (b : Begun) (done : Bool) → Ours done b → Known done (lostStartBrings ToDevice b byte)
     known-lost byte clear done h = tt
-    known-lost byte (begun n count) done h = go (eqb byte 0x03 && eqb (count + 1) (length (frame Command n)))
+    known-lost byte (begun n count) done h = go (eqb byte 0x03 && eqb (count + 1) (length (frame ToDevice n)))
       where
         go : (t : Bool) → Known done (cond t (heard n ∷ []) (brokenFrame ∷ []))
         go true = ⊎-elim (λ e. inl (e, tt)) (λ o. inr (o, tt)) h
@@ -159,18 +159,18 @@ module _ {B : Type 0} (carry : B → Message → Carried B) where
         go true = tt
         go false = tt
 
-    known : (a : Arrival) (b : Begun) (done : Bool) → Ours done b → Known done (brings Command b m a)
+    known : (a : Arrival) (b : Begun) (done : Bool) → Ours done b → Known done (brings ToDevice b m a)
     known whole b done h = known-start b done (heard m ∷ []) (inl (refl, tt))
     known (replaced zero byte) b done h = known-lost byte b done h
-    known (replaced (suc i) byte) b done h = known-start b done _ (known-damage (length (frame Command m)) (suc i) byte done)
+    known (replaced (suc i) byte) b done h = known-start b done _ (known-damage (length (frame ToDevice m)) (suc i) byte done)
     known (cut zero) b done h = tt
     known (cut (suc c)) b done h = subst (Known done) (append-nil (startBrings b)) (known-start b done [] tt)
 
-    ours : (a : Arrival) (b : Begun) (done : Bool) → Ours done b → Ours (done || heardIn m (brings Command b m a)) (leaves Command b m a)
+    ours : (a : Arrival) (b : Begun) (done : Bool) → Ours done b → Ours (done || heardIn m (brings ToDevice b m a)) (leaves ToDevice b m a)
     ours whole b done h = tt
-    ours (replaced at byte) b done h = go (eqb byte 0x01 && eqb (at + 1) (length (frame Command m)))
+    ours (replaced at byte) b done h = go (eqb byte 0x01 && eqb (at + 1) (length (frame ToDevice m)))
       where
-        go : (t : Bool) → Ours (done || heardIn m (brings Command b m (replaced at byte))) (cond t (begun m 1) clear)
+        go : (t : Bool) → Ours (done || heardIn m (brings ToDevice b m (replaced at byte))) (cond t (begun m 1) clear)
         go true = inl refl
         go false = tt
     ours (cut zero) b done h = subst (λ d. Ours d b) (sym (or-false done)) h
@@ -178,16 +178,16 @@ module _ {B : Type 0} (carry : B → Message → Carried B) where
 
     -- the device between two tries
     abbrev at : Begun → Bool → State B
-    at b done = device (standsAt Command b) (beforeAt done) (storeAt done)
+    at b done = device (standsAt ToDevice b) (beforeAt done) (storeAt done)
 
-    one-try : (a : Arrival) → mayArrive (frame Command m) a ≡ true → (b : Begun) → Fits Command b → (done : Bool) → Ours done b
-        → session carry (at b done) (arriving (frame Command m) a) ≡ endingAt (standsAt Command (leaves Command b m a)) (Told done (brings Command b m a))
+    one-try : (a : Arrival) → mayArrive (frame ToDevice m) a ≡ true → (b : Begun) → Fits ToDevice b → (done : Bool) → Ours done b
+        → session carry (at b done) (arriving (frame ToDevice m) a) ≡ endingAt (standsAt ToDevice (leaves ToDevice b m a)) (Told done (brings ToDevice b m a))
     one-try a e b f done h =
         any-try m can a e b f (beforeAt done) (storeAt done)
-        ∙ ap (endingAt (standsAt Command (leaves Command b m a))) (reacting (brings Command b m a) done (known a b done h))
+        ∙ ap (endingAt (standsAt ToDevice (leaves ToDevice b m a))) (reacting (brings ToDevice b m a) done (known a b done h))
 
     -- a whole try is heard
-    hears-whole : (b : Begun) → heardIn m (brings Command b m whole) ≡ true
+    hears-whole : (b : Begun) → heardIn m (brings ToDevice b m whole) ≡ true
     hears-whole clear = ap (λ z. not (not z) || false) (same m)
     hears-whole (begun n count) = go (ltb 1 count)
       where
@@ -195,30 +195,30 @@ module _ {B : Type 0} (carry : B → Message → Carried B) where
         go true = ap (λ z. not (not z) || false) (same m)
         go false = ap (λ z. not (not z) || false) (same m)
 
-    still : (a : Arrival) (b : Begun) (done rest : Bool) → done || (isWhole a || rest) ≡ true → (done || heardIn m (brings Command b m a)) || rest ≡ true
+    still : (a : Arrival) (b : Begun) (done rest : Bool) → done || (isWhole a || rest) ≡ true → (done || heardIn m (brings ToDevice b m a)) || rest ≡ true
     still whole b done rest e = ap (λ h. (done || h) || rest) (hears-whole b) ∙ ap (λ z. z || rest) (or-true done)
-    still (replaced i byte) b done rest e = or-more done (heardIn m (brings Command b m (replaced i byte))) rest e
-    still (cut count) b done rest e = or-more done (heardIn m (brings Command b m (cut count))) rest e
+    still (replaced i byte) b done rest e = or-more done (heardIn m (brings ToDevice b m (replaced i byte))) rest e
+    still (cut count) b done rest e = or-more done (heardIn m (brings ToDevice b m (cut count))) rest e
 
     -- all the tries, at least one whole
     record Outcome (b : Begun) (done : Bool) (tries : List Arrival) : Type 0 where
-      carried : session carry (at b done) (triesArriving (frame Command m) tries) .carried ≡ carriedIn m done true
-      state : session carry (at b done) (triesArriving (frame Command m) tries) .state ≡ at (triesLeave b m tries) true
+      carried : session carry (at b done) (triesArriving (frame ToDevice m) tries) .carried ≡ carriedIn m done true
+      state : session carry (at b done) (triesArriving (frame ToDevice m) tries) .state ≡ at (triesLeave b m tries) true
       bring : TriesBring carry (at b done) b m done (lastAnswer first) k tries
-      fits : Fits Command (triesLeave b m tries)
+      fits : Fits ToDevice (triesLeave b m tries)
       left : Ours true (triesLeave b m tries)
 
-    tries-bring : (tries : List Arrival) → all (mayArrive (frame Command m)) tries ≡ true → (b : Begun) → Fits Command b → (done : Bool) → Ours done b
+    tries-bring : (tries : List Arrival) → all (mayArrive (frame ToDevice m)) tries ≡ true → (b : Begun) → Fits ToDevice b → (done : Bool) → Ours done b
         → done || any isWhole tries ≡ true → Outcome b done tries
     tries-bring [] e b f true h some = record { carried = refl; state = refl; bring = tt; fits = f; left = h }
     tries-bring [] e b f false h some = absurd (false≢true some)
     tries-bring (a ∷ rest) e b f done h some =
-        let sent = frame Command m in
+        let sent = frame ToDevice m in
         let two = both (mayArrive sent a) (all (mayArrive sent) rest) e in
-        let brought : List Event = brings Command b m a in
+        let brought : List Event = brings ToDevice b m a in
         let now = one-try a (two .0) b f done h in
-        let next = leaves Command b m a in
-        let o = tries-bring rest (two .1) next (try-read Command m can a (two .0) b f .fits) (done || heardIn m brought) (ours a b done h) (still a b done (any isWhole rest) some) in
+        let next = leaves ToDevice b m a in
+        let o = tries-bring rest (two .1) next (try-read ToDevice m can a (two .0) b f .fits) (done || heardIn m brought) (ours a b done h) (still a b done (any isWhole rest) some) in
         let parts = session-append carry (at b done) (arriving sent a) (triesArriving sent rest) in
         let state = ap (λ (z : Session B). z .state) now in
         record {
@@ -240,12 +240,12 @@ module _ {B : Type 0} (carry : B → Message → Carried B) where
   Left before cs clear = Unit {0}
   Left before cs (begun n count) = (repeats before n ≡ true) × (differsFrom n cs ≡ true)
 
-  left-ours : (c : Sent) (cs : List Sent) (can : sendable Command (c .command) ≡ true) (before : Before) (new : repeats before (c .command) ≡ false) (store : B) (b : Begun)
+  left-ours : (c : Sent) (cs : List Sent) (can : sendable ToDevice (c .command) ≡ true) (before : Before) (new : repeats before (c .command) ≡ false) (store : B) (b : Begun)
       → Left before (c ∷ cs) b → Ours (c .command) can before new store false b
   left-ours c cs can before new store clear l = tt
   left-ours c cs can before new store (begun n count) l = inr (record { not-yet = refl; other = l .1; again = l .0 })
 
-  ours-left : (m : Message) (can : sendable Command m ≡ true) (before : Before) (new : repeats before m ≡ false) (store : B) (cs : List Sent) → differsFrom m cs ≡ true → (b : Begun)
+  ours-left : (m : Message) (can : sendable ToDevice m ≡ true) (before : Before) (new : repeats before m ≡ false) (store : B) (cs : List Sent) → differsFrom m cs ≡ true → (b : Begun)
       → Ours m can before new store true b → Left (was (m .seq) (m .code) (carry store m .answer)) cs b
   ours-left m can before new store cs e clear o = tt
   ours-left m can before new store cs e (begun n count) o =
@@ -259,22 +259,22 @@ module _ {B : Type 0} (carry : B → Message → Carried B) where
     store-after : session carry s (allArriving cs) .state .store ≡ carryAll carry store (commands cs)
     bring : AllBring carry s b store last cs
 
-  delivered-from : (cs : List Sent) → delivery cs ≡ true → (before : Before) → New before cs → (b : Begun) → Fits Command b → Left before cs b → (store : B)
-      → Delivered (device (standsAt Command b) before store) b store (lastAnswer before) cs
+  delivered-from : (cs : List Sent) → delivery cs ≡ true → (before : Before) → New before cs → (b : Begun) → Fits ToDevice b → Left before cs b → (store : B)
+      → Delivered (device (standsAt ToDevice b) before store) b store (lastAnswer before) cs
   delivered-from [] e before new b f l store = record { carried = refl; store-after = refl; bring = tt }
   delivered-from (c ∷ cs) e before new b f l store =
       let m = c .command in
-      let sent = frame Command m in
+      let sent = frame ToDevice m in
       let two = both (tried c && differsFrom m cs) (delivery cs) e in
       let own = both (tried c) (differsFrom m cs) (two .0) in
-      let may = both (sendable Command m && all (mayArrive sent) (c .tries)) (any isWhole (c .tries)) (own .0) in
-      let can = both (sendable Command m) (all (mayArrive sent) (c .tries)) (may .0) in
+      let may = both (sendable ToDevice m && all (mayArrive sent) (c .tries)) (any isWhole (c .tries)) (own .0) in
+      let can = both (sendable ToDevice m) (all (mayArrive sent) (c .tries)) (may .0) in
       let o = tries-bring m (can .0) before new store (c .tries) (can .1) b f false (left-ours c cs (can .0) before new store b l) (may .1) in
       let k = carry store m in
       let next = triesLeave b m (c .tries) in
       let rest = delivered-from cs (two .1) (was (m .seq) (m .code) (k .answer)) (new-next m (k .answer) cs (own .1)) next (o .fits)
       (ours-left m (can .0) before new store cs (own .1) next (o .left)) (carry store m .store) in
-      let s : State B = device (standsAt Command b) before store in
+      let s : State B = device (standsAt ToDevice b) before store in
       let bytes = triesArriving sent (c .tries) in
       let parts = session-append carry s bytes (allArriving cs) in
       record {

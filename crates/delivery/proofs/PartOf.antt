@@ -7,7 +7,7 @@ use Prim.Native.Nat.{ℕ, zero, suc, _+_}
 use lib.Dec.{eqb}
 use lib.ListN.{length}
 use Rattle.wire.specs.Frame.{Message, frame}
-use Rattle.wire.specs.declared.Kind.the-variants.{Command}
+use Rattle.wire.specs.declared.Way.the-variants.{ToDevice}
 use Rattle.reader.specs.Reading.{brokenFrame, heard}
 use Rattle.line.specs.Turns.{Before, none, was, Carried, switchedOn, repeats, session}
 use Rattle.tries.specs.Tries.{Arrival, whole, replaced, cut, Begun, clear, begun, leaves, startBrings, lostStartBrings, damageBrings, brings}
@@ -33,36 +33,36 @@ abbrev newBegun : Before → Begun → List Message
 newBegun before clear = []
 newBegun before (begun n count) = newOf before n
 
-lost-hears : (b : Begun) (byte : ℕ) → (messages (lostStartBrings Command b byte) ≡ []) ⊎ (messages (lostStartBrings Command b byte) ≡ begunIn b)
+lost-hears : (b : Begun) (byte : ℕ) → (messages (lostStartBrings ToDevice b byte) ≡ []) ⊎ (messages (lostStartBrings ToDevice b byte) ≡ begunIn b)
 lost-hears clear byte = inl refl
-lost-hears (begun n count) byte = go (eqb byte 0x03 && eqb (count + 1) (length (frame Command n)))
+lost-hears (begun n count) byte = go (eqb byte 0x03 && eqb (count + 1) (length (frame ToDevice n)))
   where
     go : (t : Bool) → (messages (cond t (heard n ∷ []) (brokenFrame ∷ [])) ≡ []) ⊎ (messages (cond t (heard n ∷ []) (brokenFrame ∷ [])) ≡ n ∷ [])
     go true = inr refl
     go false = inl refl
 
-damaged-own : (m : Message) (at byte : ℕ) (b : Begun) → OwnBegun m (leaves Command b m (replaced at byte))
-damaged-own m at byte b = go (eqb byte 0x01 && eqb (at + 1) (length (frame Command m)))
+damaged-own : (m : Message) (at byte : ℕ) (b : Begun) → OwnBegun m (leaves ToDevice b m (replaced at byte))
+damaged-own m at byte b = go (eqb byte 0x01 && eqb (at + 1) (length (frame ToDevice m)))
   where
     go : (t : Bool) → OwnBegun m (cond t (begun m 1) clear)
     go true = refl
     go false = tt
 
-still-own : (m : Message) (a : Arrival) (b : Begun) → OwnBegun m b → OwnBegun m (leaves Command b m a)
+still-own : (m : Message) (a : Arrival) (b : Begun) → OwnBegun m b → OwnBegun m (leaves ToDevice b m a)
 still-own m whole b o = tt
 still-own m (replaced at byte) b o = damaged-own m at byte b
 still-own m (cut zero) b o = o
 still-own m (cut (suc n)) b o = refl
 
-damaged-silent : (m : Message) (b : Begun) (i byte : ℕ) → messages (brings Command b m (replaced (suc i) byte)) ≡ []
+damaged-silent : (m : Message) (b : Begun) (i byte : ℕ) → messages (brings ToDevice b m (replaced (suc i) byte)) ≡ []
 damaged-silent m b i byte =
-    start-silent b (damageBrings (length (frame Command m)) (suc i) byte) ∙ damage-silent (length (frame Command m)) (suc i) byte
+    start-silent b (damageBrings (length (frame ToDevice m)) (suc i) byte) ∙ damage-silent (length (frame ToDevice m)) (suc i) byte
 
-cut-silent : (m : Message) (b : Begun) (n : ℕ) → messages (brings Command b m (cut (suc n))) ≡ []
+cut-silent : (m : Message) (b : Begun) (n : ℕ) → messages (brings ToDevice b m (cut (suc n))) ≡ []
 cut-silent m b n = ap messages (sym (append-nil (startBrings b))) ∙ start-silent b []
 
 -- with its own begun, a try brings the command itself or nothing
-try-own : (m : Message) (a : Arrival) (b : Begun) → OwnBegun m b → (messages (brings Command b m a) ≡ []) ⊎ (messages (brings Command b m a) ≡ m ∷ [])
+try-own : (m : Message) (a : Arrival) (b : Begun) → OwnBegun m b → (messages (brings ToDevice b m a) ≡ []) ⊎ (messages (brings ToDevice b m a) ≡ m ∷ [])
 try-own m whole b o = inr (start-silent b (heard m ∷ []))
 try-own m (replaced zero byte) clear o = inl refl
 try-own m (replaced zero byte) (begun n count) o =
@@ -116,7 +116,7 @@ module _ (m : Message) (cs : List Sent) (others : (b : Begun) (before : Before) 
   later [] (begun n count) o before =
       subst (λ z. Sublistᴰ (newBehind before (allHeard (begun n count) cs)) (newOf before z ++ commands cs)) o (others (begun n count) before)
   later (a ∷ tries) b o before =
-      let next = leaves Command b m a in
+      let next = leaves ToDevice b m a in
       let on = later tries next (still-own m a b o) in
       ⊎-elim
       (λ e. subst (λ ms. Part (heardThen ms tries next) before) (sym e) (on before))
@@ -149,7 +149,7 @@ module _ (m : Message) (cs : List Sent) (others : (b : Begun) (before : Before) 
       subst (λ ms. Whole (heardThen ms tries clear) before b) (sym (start-silent b (heard m ∷ [])))
       (wider before b (m ∷ rest tries clear) (hear-own (rest tries clear) (later tries clear tt) before))
   early (replaced zero byte ∷ tries) b before =
-      let next = leaves Command b m (replaced zero byte) in
+      let next = leaves ToDevice b m (replaced zero byte) in
       let on = later tries next (damaged-own m zero byte b) in
       ⊎-elim
       (λ e. subst (λ ms. Whole (heardThen ms tries next) before b) (sym e) (wider before b (rest tries next) (on before)))
@@ -160,7 +160,7 @@ module _ (m : Message) (cs : List Sent) (others : (b : Begun) (before : Before) 
       older clear next on = wider before clear (rest tries next) (on before)
       older (begun n count) next on = hear-older n (rest tries next) on before
   early (replaced (suc i) byte ∷ tries) b before =
-      let next = leaves Command b m (replaced (suc i) byte) in
+      let next = leaves ToDevice b m (replaced (suc i) byte) in
       subst (λ ms. Whole (heardThen ms tries next) before b) (sym (damaged-silent m b i byte))
       (wider before b (rest tries next) (later tries next (damaged-own m (suc i) byte b) before))
   early (cut zero ∷ tries) b before = early tries b before

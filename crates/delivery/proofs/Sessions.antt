@@ -4,7 +4,7 @@ use mathlib.Core.Bool.{Bool, true, false, cond}
 use mathlib.Core.List.{List, [], _∷_, _++_, append-assoc}
 use Prim.Native.Nat.{ℕ}
 use Rattle.wire.specs.Frame.{Message}
-use Rattle.wire.specs.declared.Kind.the-variants.{Command}
+use Rattle.wire.specs.declared.Way.the-variants.{ToDevice}
 use Rattle.reader.specs.Reading.{Place, outside, Event, nothing, brokenFrame, heard, read, run}
 use Rattle.line.specs.Turns.{Before, was, State, Carried, Turn, Session, repeats, lastAnswer, onWhole, onEvent, turn, session}
 use Rattle.tries.specs.TryRead.{news}
@@ -104,12 +104,12 @@ module _ {B : Type 0} (carry : B → Message → Carried B) where
 
   -- the law: a session is what its events bring, and ends where reading stands
   session-run : (bs : List ℕ) (s : State B)
-      → session carry s bs ≡ endingAt (run Command (s .place) bs .place) (reacts (s .before) (s .store) (run Command (s .place) bs .events))
+      → session carry s bs ≡ endingAt (run ToDevice (s .place) bs .place) (reacts (s .before) (s .store) (run ToDevice (s .place) bs .events))
   session-run [] s = refl
-  session-run (b ∷ bs) s = go (read Command (s .place) b .event) (session-run bs)
+  session-run (b ∷ bs) s = go (read ToDevice (s .place) b .event) (session-run bs)
     where
       next : Place
-      next = read Command (s .place) b .place
+      next = read ToDevice (s .place) b .place
 
       then : Turn B → Session B
       then t = record {
@@ -119,12 +119,12 @@ module _ {B : Type 0} (carry : B → Message → Carried B) where
       }
 
       end : Place
-      end = run Command next bs .place
+      end = run ToDevice next bs .place
 
       es : List Event
-      es = run Command next bs .events
+      es = run ToDevice next bs .events
 
-      go : (e : Event) → ((z : State B) → session carry z bs ≡ endingAt (run Command (z .place) bs .place) (reacts (z .before) (z .store) (run Command (z .place) bs .events)))
+      go : (e : Event) → ((z : State B) → session carry z bs ≡ endingAt (run ToDevice (z .place) bs .place) (reacts (z .before) (z .store) (run ToDevice (z .place) bs .events)))
           → then (onEvent carry s next e) ≡ endingAt end (reacts (s .before) (s .store) (e ∷ es))
       go nothing rest = rest (device next (s .before) (s .store))
       go brokenFrame rest =
@@ -135,7 +135,7 @@ module _ {B : Type 0} (carry : B → Message → Carried B) where
           ∙ ap (λ (z : Session B). record { gives = t .gives ++ z .gives; carried = t .carried ++ z .carried; state = z .state }) (rest (device next (t .state .before) (t .state .store)))
 
   pub session-news : (bs : List ℕ) (p : Place) (before : Before) (store : B)
-      → session carry (device p before store) bs ≡ endingAt (run Command p bs .place) (reacts before store (news (run Command p bs .events)))
+      → session carry (device p before store) bs ≡ endingAt (run ToDevice p bs .place) (reacts before store (news (run ToDevice p bs .events)))
   session-news bs p before store =
       session-run bs (device p before store)
-      ∙ ap (endingAt (run Command p bs .place)) (sym (reacts-news (run Command p bs .events) before store))
+      ∙ ap (endingAt (run ToDevice p bs .place)) (sym (reacts-news (run ToDevice p bs .events) before store))

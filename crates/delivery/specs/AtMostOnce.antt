@@ -5,7 +5,7 @@ use mathlib.Core.List.{List, [], _∷_, _++_}
 use lib.Dec.{eqb}
 use lib.ListN.{length}
 use Rattle.wire.specs.Frame.{Message, frame}
-use Rattle.wire.specs.declared.Kind.the-variants.{Command}
+use Rattle.wire.specs.declared.Way.the-variants.{ToDevice}
 use Rattle.reader.specs.Reading.{Event, nothing, brokenFrame, heard}
 use Rattle.tries.specs.Tries.{Arrival, whole, replaced, cut, Begun, leaves, brings}
 use Rattle.delivery.specs.Delivery.{isWhole, Sent, all, any, mayCome, differ, differsFrom, triesLeave}
@@ -24,7 +24,7 @@ messages (heard m ∷ es) = m ∷ messages es
 
 abbrev pub triesHeard : Begun → Message → List Arrival → List Message
 triesHeard b m [] = []
-triesHeard b m (a ∷ rest) = messages (brings Command b m a) ++ triesHeard (leaves Command b m a) m rest
+triesHeard b m (a ∷ rest) = messages (brings ToDevice b m a) ++ triesHeard (leaves ToDevice b m a) m rest
 
 abbrev pub allHeard : Begun → List Sent → List Message
 allHeard b [] = []
@@ -43,7 +43,7 @@ withoutRepeats (m ∷ ms) = m ∷ newAfter m ms
 abbrev pub lacksLast : Message → Arrival → Bool
 lacksLast m whole = false
 lacksLast m (replaced at byte) = false
-lacksLast m (cut count) = eqb (count + 1) (length (frame Command m))
+lacksLast m (cut count) = eqb (count + 1) (length (frame ToDevice m))
 
 abbrev pub noneLacksLast : List Sent → Bool
 noneLacksLast [] = true

@@ -8,7 +8,7 @@ use mathlib.Core.Bool.{Bool, true, false, not, cond, _&&_, _||_}
 use mathlib.Core.List.{List, [], _∷_, _++_, map}
 use lib.Dec.{eqb}
 use Rattle.wire.specs.Frame.{Message, frame, sendable}
-use Rattle.wire.specs.declared.Kind.the-variants.{Command}
+use Rattle.wire.specs.declared.Way.the-variants.{ToDevice}
 use Rattle.reader.specs.Reading.{outside, Event, nothing, brokenFrame, heard}
 use Rattle.line.specs.Turns.{State, Carried, Session, onWhole, turn, session}
 use Rattle.tries.specs.Tries.{Arrival, whole, replaced, cut, mayArrive, arriving, Begun, leaves, brings}
@@ -33,7 +33,7 @@ any test (a ∷ rest) = test a || any test rest
 
 -- PROTOCOL 9.1: a command that can be sent, each try of it in one of the ways of `Arrival`; there may be none
 abbrev pub mayCome : Sent → Bool
-mayCome c = sendable Command (c .command) && all (mayArrive (frame Command (c .command))) (c .tries)
+mayCome c = sendable ToDevice (c .command) && all (mayArrive (frame ToDevice (c .command))) (c .tries)
 
 -- PROTOCOL 9.6: at least one try of it arrives whole
 abbrev pub tried : Sent → Bool
@@ -63,12 +63,12 @@ triesArriving sent (a ∷ rest) = arriving sent a ++ triesArriving sent rest
 
 abbrev pub allArriving : List Sent → List ℕ
 allArriving [] = []
-allArriving (c ∷ cs) = triesArriving (frame Command (c .command)) (c .tries) ++ allArriving cs
+allArriving (c ∷ cs) = triesArriving (frame ToDevice (c .command)) (c .tries) ++ allArriving cs
 
 -- PROTOCOL 9.2: what all the tries of one command leave begun
 abbrev pub triesLeave : Begun → Message → List Arrival → Begun
 triesLeave b m [] = b
-triesLeave b m (a ∷ rest) = triesLeave (leaves Command b m a) m rest
+triesLeave b m (a ∷ rest) = triesLeave (leaves ToDevice b m a) m rest
 
 -- PROTOCOL 9.4: what is given back for what a try of m brings: NAK (15h) for a broken frame; for a frame heard its answer, that of m, with its lead where m is
 -- carried out now, or that of the command before m once more; `done` says whether m was carried out before
@@ -97,16 +97,16 @@ module _ {B : Type 0} (carry : B → Message → Carried B) where
 
   -- PROTOCOL 9.4: one try of m: what is given back during it, and whether m is carried out with it; `done` says whether it was before
   pub record TryBrings (s : State B) (m : Message) (done : Bool) (last : List ℕ) (k : Carried B) (a : Arrival) (brought : List Event) : Type 0 where
-    pub gives : session carry s (arriving (frame Command m) a) .gives ≡ givenBack m last k done brought
-    pub carried : session carry s (arriving (frame Command m) a) .carried ≡ carriedIn m done (heardIn m brought)
+    pub gives : session carry s (arriving (frame ToDevice m) a) .gives ≡ givenBack m last k done brought
+    pub carried : session carry s (arriving (frame ToDevice m) a) .carried ≡ carriedIn m done (heardIn m brought)
 
   -- the tries of one command, one after the other, from what stands begun
   abbrev pub TriesBring : State B → Begun → Message → Bool → (last : List ℕ) → Carried B → List Arrival → Type 0
   TriesBring s b m done last k [] = Unit {0}
   TriesBring s b m done last k (a ∷ rest) =
-      let brought = brings Command b m a in
+      let brought = brings ToDevice b m a in
       TryBrings s m done last k a brought
-      × TriesBring (session carry s (arriving (frame Command m) a) .state) (leaves Command b m a) m (done || heardIn m brought) last k rest
+      × TriesBring (session carry s (arriving (frame ToDevice m) a) .state) (leaves ToDevice b m a) m (done || heardIn m brought) last k rest
 
   -- and of every command of the list: its answer is that of carrying it out at its turn
   abbrev pub AllBring : State B → Begun → B → (last : List ℕ) → List Sent → Type 0
@@ -115,14 +115,14 @@ module _ {B : Type 0} (carry : B → Message → Carried B) where
       let m = c .command in
       let k = carry store m in
       TriesBring s b m false last k (c .tries)
-      × AllBring (session carry s (triesArriving (frame Command m) (c .tries)) .state) (triesLeave b m (c .tries)) (k .store) (k .answer) cs
+      × AllBring (session carry s (triesArriving (frame ToDevice m) (c .tries)) .state) (triesLeave b m (c .tries)) (k .store) (k .answer) cs
 
   -- PROTOCOL 9.5: a try of m that is cut, and the next one, of n, whose first byte has become 03h
   abbrev pub lacking : State B → Message → ℕ → Session B
-  lacking s m count = session carry s (arriving (frame Command m) (cut count))
+  lacking s m count = session carry s (arriving (frame ToDevice m) (cut count))
 
   abbrev pub endedBy : State B → (m n : Message) → ℕ → Session B
-  endedBy s m n count = session carry (lacking s m count .state) (arriving (frame Command n) (replaced 0 0x03))
+  endedBy s m n count = session carry (lacking s m count .state) (arriving (frame ToDevice n) (replaced 0 0x03))
 
   -- PROTOCOL 9.5, where m's try lacks only its last byte: it brings nothing; with the next one's first byte m's frame is whole, and carried out or
   -- answered again as such; the rest of the next one brings nothing

@@ -10,7 +10,7 @@ use lib.Seq.{length-sets}
 use borrow.Author.Tests.{lt-leb, le-leb}
 use Rattle.text.proofs.Laws.{empty}
 use Rattle.wire.specs.Frame.{Message, commandOf}
-use Rattle.wire.specs.declared.Kind.the-variants.{Command}
+use Rattle.wire.specs.declared.Way.the-variants.{ToDevice}
 use Rattle.reader.specs.Reading.{Place, outside, Event, nothing, brokenFrame, heard, Read, read}
 use Rattle.reader.specs.Fields.{placeOf, readerOf, keptIn}
 use Rattle.reader.proofs.Running.{bytesOf, place-back, read-room, kept-length}
@@ -149,9 +149,9 @@ module _ (m : Machine) (lasts : length (m .last) ≡ 217) where
       let frame = m .frame in
       let t : Turn Store = turn carry (stateOf m) byte in
       let here = placeOf (m .device .line .reader) frame in
-      let at : Read = read Command here byte in
+      let at : Read = read ToDevice here byte in
       let kept = place-kept (at .place) (at .event) in
-      let back : placeOf (readerOf (at .place)) (keptIn frame (at .place)) ≡ at .place = place-back frame (at .place) (omega (arith, read-room Command here byte, small, size)) in
+      let back : placeOf (readerOf (at .place)) (keptIn frame (at .place)) ≡ at .place = place-back frame (at .place) (omega (arith, read-room ToDevice here byte, small, size)) in
       let held : Before = stateOf (machineAfter m t) .before in
       ap (λ z. record { place = placeOf (readerOf z) (keptIn frame z); before = held; store = t .state .store }) kept
       ∙ ap (λ z. record { place = z; before = held; store = t .state .store }) (back ∙ sym kept)
@@ -168,12 +168,12 @@ pub record Part (m : Machine) (lent : Lent) (bytes : List ℕ) (h : PartHeard) :
   pub frames : length (h .after .machine .frame) ≡ 256
   pub lasts : length (h .after .machine .last) ≡ 217
   pub room : length (h .after .lent .buffer) ≡ length (lent .buffer)
-  pub held : Underway Command (stateOf (h .after .machine) .place)
+  pub held : Underway ToDevice (stateOf (h .after .machine) .place)
   pub goes-on : session carry (stateOf m) bytes
       ≡ behind gives (carriedBy (h .call) (h .after .machine .frame)) (session carry (stateOf (h .after .machine)) (drop (h .taken) bytes))
 
 pub part-is : (bytes : List ℕ) (m : Machine) (lent : Lent) → length (m .frame) ≡ 256 → length (m .last) ≡ 217 → 217 ≤ length (lent .buffer)
-    → Underway Command (stateOf m .place) → hearing m lent bytes .after .count ≤ 217 → Part m lent bytes (hearing m lent bytes)
+    → Underway ToDevice (stateOf m .place) → hearing m lent bytes .after .count ≤ 217 → Part m lent bytes (hearing m lent bytes)
 part-is [] m lent frames lasts room held few = record { gives = []; given-is = refl; frames = frames; lasts = lasts; room = refl; held = held; goes-on = refl }
 part-is (x ∷ xs) m lent frames lasts room held few = go (isQuiet call) refl few (part-is xs)
   where
@@ -187,7 +187,7 @@ part-is (x ∷ xs) m lent frames lasts room held few = go (isQuiet call) refl fe
     a = taken m lent t
 
     at : Read
-    at = read Command (stateOf m .place) x
+    at = read ToDevice (stateOf m .place) x
 
     rest : PartHeard
     rest = hearing (a .machine) (a .lent) xs
@@ -203,10 +203,10 @@ part-is (x ∷ xs) m lent frames lasts room held few = go (isQuiet call) refl fe
     lasts' = last-length (t .carried) ∙ lasts
 
     back : length (t .gives) ≤ 217 → stateOf (a .machine) ≡ t .state
-    back f = state-back m lasts x (underway-few Command (stateOf m .place) held) frames f
+    back f = state-back m lasts x (underway-few ToDevice (stateOf m .place) held) frames f
 
-    held' : length (t .gives) ≤ 217 → Underway Command (stateOf (a .machine) .place)
-    held' f = subst (Underway Command) (sym (ap (λ (s : State Store). s .place) (back f) ∙ place-kept m lasts (at .place) (at .event))) (underway-read Command (stateOf m .place) x held)
+    held' : length (t .gives) ≤ 217 → Underway ToDevice (stateOf (a .machine) .place)
+    held' f = subst (Underway ToDevice) (sym (ap (λ (s : State Store). s .place) (back f) ∙ place-kept m lasts (at .place) (at .event))) (underway-read ToDevice (stateOf m .place) x held)
 
     now-carried : t .carried ≡ carriedBy call (a .machine .frame)
     now-carried =
@@ -217,7 +217,7 @@ part-is (x ∷ xs) m lent frames lasts room held few = go (isQuiet call) refl fe
 
     go : (q : Bool) → isQuiet call ≡ q → either q .after .count ≤ 217
         → ((n : Machine) (given : Lent) → length (n .frame) ≡ 256 → length (n .last) ≡ 217 → 217 ≤ length (given .buffer)
-        → Underway Command (stateOf n .place) → hearing n given xs .after .count ≤ 217 → Part n given xs (hearing n given xs))
+        → Underway ToDevice (stateOf n .place) → hearing n given xs .after .count ≤ 217 → Part n given xs (hearing n given xs))
         → Part m lent (x ∷ xs) (either q)
     go true e few below =
         let same = byte-quiet m lent x e in

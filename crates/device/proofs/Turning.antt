@@ -8,7 +8,7 @@ use lib.Dec.{eqb}
 use lib.ListN.{length, getD, take, drop}
 use Rattle.wire.specs.Frame.{Message, commandOf}
 use Rattle.wire.specs.Places.{dataCount}
-use Rattle.wire.specs.declared.Kind.the-variants.{Command}
+use Rattle.wire.specs.declared.Way.the-variants.{ToDevice}
 use Rattle.reader.specs.Reading.{Place, outside, inside, Event, nothing, brokenFrame, heard, Read, Standing, broken, beginning, whole, standing, goesOn, grown, message, startsAnew, read, readOther}
 use Rattle.reader.specs.Fields.{placeOf, readerOf, keptIn}
 use Rattle.reader.specs.declared.Reader.{Reader}
@@ -60,25 +60,25 @@ anew (inside sum (b ∷ bytes)) m e = not-broken m e
 abbrev pub Standing-in : List ℕ → Message → Type 0
 Standing-in frame m = m ≡ commandOf (m .seq) (m .code) (take (length (m .content)) (drop 3 frame))
 
-stands-in : (frame : List ℕ) (c : ℕ) → Standing-in frame (message Command (take c frame))
-stands-in frame c = ap (λ z. commandOf (message Command (take c frame) .seq) (message Command (take c frame) .code) z) (sym (part-of (dataCount Command (getD (take c frame) 0 0)) c 3 frame))
+stands-in : (frame : List ℕ) (c : ℕ) → Standing-in frame (message ToDevice (take c frame))
+stands-in frame c = ap (λ z. commandOf (message ToDevice (take c frame) .seq) (message ToDevice (take c frame) .code) z) (sym (part-of (dataCount ToDevice (getD (take c frame) 0 0)) c 3 frame))
 
-went : (frame : List ℕ) (c : ℕ) (st : Standing) (next : Place) (m : Message) → goesOn st next (message Command (take c frame)) .event ≡ heard m
-    → (goesOn st next (message Command (take c frame)) .place ≡ outside) × Standing-in frame m
+went : (frame : List ℕ) (c : ℕ) (st : Standing) (next : Place) (m : Message) → goesOn st next (message ToDevice (take c frame)) .event ≡ heard m
+    → (goesOn st next (message ToDevice (take c frame)) .place ≡ outside) × Standing-in frame m
 went frame c broken next m e = absurd (not-broken m e)
 went frame c beginning next m e = absurd (not-nothing m e)
-went frame c whole next m e = (refl, subst (Standing-in frame) (sym (same-heard (message Command (take c frame)) m e)) (stands-in frame c))
+went frame c whole next m e = (refl, subst (Standing-in frame) (sym (same-heard (message ToDevice (take c frame)) m e)) (stands-in frame c))
 
 heard-inside : (r : Reader) (frame : List ℕ) (b : ℕ) (m : Message) (within start : Bool)
-    → cond start (record { place = inside 0 []; event = startsAnew (cond within (inside (r .sum) (take (r .count) frame)) outside) }) (readOther Command (cond within (inside (r .sum) (take (r .count) frame)) outside) b) .event ≡ heard m
-    → (cond start (record { place = inside 0 []; event = startsAnew (cond within (inside (r .sum) (take (r .count) frame)) outside) }) (readOther Command (cond within (inside (r .sum) (take (r .count) frame)) outside) b) .place ≡ outside) × Standing-in frame m
+    → cond start (record { place = inside 0 []; event = startsAnew (cond within (inside (r .sum) (take (r .count) frame)) outside) }) (readOther ToDevice (cond within (inside (r .sum) (take (r .count) frame)) outside) b) .event ≡ heard m
+    → (cond start (record { place = inside 0 []; event = startsAnew (cond within (inside (r .sum) (take (r .count) frame)) outside) }) (readOther ToDevice (cond within (inside (r .sum) (take (r .count) frame)) outside) b) .place ≡ outside) × Standing-in frame m
 heard-inside r frame b m within true e = absurd (anew (cond within (inside (r .sum) (take (r .count) frame)) outside) m e)
 heard-inside r frame b m false false e = absurd (not-nothing m e)
 heard-inside r frame b m true false e =
-    went frame (r .count) (standing Command (r .sum) (take (r .count) frame) b) (inside (grown Command (r .sum) (take (r .count) frame) b) (take (r .count) frame ++ b ∷ [])) m e
+    went frame (r .count) (standing ToDevice (r .sum) (take (r .count) frame) b) (inside (grown ToDevice (r .sum) (take (r .count) frame) b) (take (r .count) frame ++ b ∷ [])) m e
 
-pub heard-whole : (r : Reader) (frame : List ℕ) (b : ℕ) (m : Message) → read Command (placeOf r frame) b .event ≡ heard m
-    → (read Command (placeOf r frame) b .place ≡ outside) × Standing-in frame m
+pub heard-whole : (r : Reader) (frame : List ℕ) (b : ℕ) (m : Message) → read ToDevice (placeOf r frame) b .event ≡ heard m
+    → (read ToDevice (placeOf r frame) b .place ≡ outside) × Standing-in frame m
 heard-whole r frame b m e = heard-inside r frame b m (r .inside) (eqb b 0x01) e
 
 pub quiet-is : (c : Call) → isQuiet c ≡ true → c ≡ Quiet
@@ -141,7 +141,7 @@ module _ (m : Machine) (lent : Lent) where
   -- the whole byte: what is heard, then what it asks for
   pub byte-is : (byte : ℕ) → answering (callAt byte) (heardUpTo byte) lent ≡ taken m lent (turn carry (stateOf m) byte)
   byte-is byte =
-      let at : Read = read Command (placeOf (m .device .line .reader) (m .frame)) byte in
+      let at : Read = read ToDevice (placeOf (m .device .line .reader) (m .frame)) byte in
       turn-is (at .place) (at .event) (heard-whole (m .device .line .reader) (m .frame) byte) (frameAfter (m .device .line) (m .frame) byte) refl
 
   -- a quiet byte moves nothing but reading and the frame

@@ -2,7 +2,10 @@
 use books::Books;
 use line::Call;
 use line::Line;
+use line::MOST_HELD;
 use line::Previous;
+use reader::FRAME_ROOM;
+use wire::ANSWER_ROOM;
 ghost use mathlib.Core.Path.{_≡_};
 ghost use Prim.Native.Nat.{_≤_, _<_, min};
 ghost use lib.ListN.{length, take, drop};
@@ -50,8 +53,8 @@ pub fn fresh() -> Device
 // for: the books move only there, and once a call.
 pub fn hear(
     device: Device,
-    frame: &mut [u8; 256],
-    last: &mut [u8; 217],
+    frame: &mut [u8; FRAME_ROOM],
+    last: &mut [u8; ANSWER_ROOM],
     buf: &mut [u8],
     bytes: &[u8],
 ) -> Hearing
@@ -60,7 +63,7 @@ pub fn hear(
     ensures { λ r. ⌜ r .taken ≤ length (now (bytes .entry)) ⌝ }
     ensures { λ r. ⌜ (217 ≤ length (now (buf .entry)) → 0 < length (now (bytes .entry)) → 0 < r .taken) ⌝ }
 {
-    if buf.len() < 217 {
+    if buf.len() < ANSWER_ROOM {
         return Hearing {
             given: gave(device, 7, 0),
             call: Call::Quiet,
@@ -144,7 +147,7 @@ fn order(
     ensures { λ r. ⌜ afterOf r (now (frame .entry)) (now (last .exit)) (now (buf .exit)) ≡ orders seq code (carry (record { books = device .books }) (commandOf seq code (take n (drop 3 (now (frame .entry)))))) (record { device = device; frame = now (frame .entry); last = now (last .entry) }) (record { buffer = now (buf .entry) }) ⌝ }
     ensures { λ r. ⌜ r .count ≤ 217 ⌝ }
 {
-    let end = basics::least_size(n, 253) + 3;
+    let end = basics::least_size(n, MOST_HELD) + 3;
     let books = device.books;
     let work = carrying::carry_out(books, seq, code, &frame[3..end], buf);
     let count = work.count;

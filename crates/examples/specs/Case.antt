@@ -5,7 +5,7 @@ use Prim.Native.String as string
 use mathlib.Core.List.{List, [], _∷_, _++_, map}
 use lib.ListN.{length, set}
 use Rattle.wire.specs.Frame.{Message, commandOf, answerOf, frame}
-use Rattle.wire.specs.declared.Kind.the-variants.{Command, Answer}
+use Rattle.wire.specs.declared.Way.the-variants.{ToDevice, ToTill}
 use Rattle.store.specs.Store.{Store, freshStore}
 use Rattle.line.specs.Turns.{State, switchedOn, session}
 use Rattle.carrying.specs.Carrying.{carry}
@@ -34,7 +34,7 @@ pub data Case : Type 0 where
 -- PROTOCOL 1.2: SEQ, CMD and data of a command; data and status of its answer
 abbrev pub asks : ℕ → ℕ → string.String → string.String → List ℕ → Exchange
 asks seq code content answer status =
-    record { hears = frame Command (commandOf seq code (bytes content)); gives = frame Answer (answerOf seq code (bytes answer) status) }
+    record { hears = frame ToDevice (commandOf seq code (bytes content)); gives = frame ToTill (answerOf seq code (bytes answer) status) }
 
 -- a command whose last byte arrives as another
 abbrev pub endsIn : ℕ → List ℕ → List ℕ
@@ -59,5 +59,5 @@ allMarked es = map (λ m. marked (m .seq) (m .code)) (session carry (switchedOn 
 
 -- a case worked out: what it says is sent, given back and carried out, by the definitions
 abbrev pub worked : Case → Case
-worked (built number command sent) = built number command (frame Command command)
+worked (built number command sent) = built number command (frame ToDevice command)
 worked (talk number exchanges done) = talk number (exchanged (switchedOn freshStore) exchanges) (allMarked exchanges)

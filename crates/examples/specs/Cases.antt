@@ -4,7 +4,7 @@ use Prim.Native.Nat.{ℕ}
 use mathlib.Core.List.{List, [], _∷_, _++_}
 use lib.ListN.{set}
 use Rattle.wire.specs.Frame.{commandOf, answerOf, frame}
-use Rattle.wire.specs.declared.Kind.the-variants.{Command, Answer}
+use Rattle.wire.specs.declared.Way.the-variants.{ToDevice, ToTill}
 use Rattle.examples.specs.Case.{Case, built, talk, Exchange, asks, bytes, endsIn, marked}
 
 -- PROTOCOL 1.1: the single byte 15h
@@ -36,7 +36,7 @@ abbrev pub lacking70 : ℕ → List ℕ
 lacking70 first = first ∷ 0x25 ∷ 0x20 ∷ 0x46 ∷ 0x35 ∷ 0x05 ∷ 0x30 ∷ 0x30 ∷ 0x3C ∷ 0x35 ∷ []
 
 abbrev pub answer70 : List ℕ
-answer70 = frame Answer (answerOf 0x20 70 (bytes "P,000000000500,000000000500,000000000000") idle)
+answer70 = frame ToTill (answerOf 0x20 70 (bytes "P,000000000500,000000000500,000000000000") idle)
 
 -- PROTOCOL 5.3: a fiscal receipt opened
 abbrev pub opens : Exchange
@@ -92,7 +92,7 @@ cases =
     -- PROTOCOL 1.9: the last byte arrives as 01h, then the command is sent again: it is carried out once
     ∷ talk 8
     (opens
-    ∷ record { hears = endsIn 0x01 (frame Command (commandOf 0x21 49 (bytes "\tB12.00"))); gives = NAK }
+    ∷ record { hears = endsIn 0x01 (frame ToDevice (commandOf 0x21 49 (bytes "\tB12.00"))); gives = NAK }
     ∷ asks 0x21 49 "\tB12.00" "" fiscal
     ∷ asks 0x22 51 "00" "0000001200,0000000000,0000001200,0000000000,0000000000,0000000000,0000000000,0000000000,0000000000" fiscal
     ∷ [])
@@ -103,7 +103,7 @@ cases =
     (record { hears = lacking70 0x01; gives = [] }
     ∷ record { hears = lacking70 0x03 ++ 0x03 ∷ []; gives = answer70 }
     ∷ record { hears = lacking70 0x01; gives = [] }
-    ∷ record { hears = set (frame Command (commandOf 0x21 70 [])) 0 0x03; gives = answer70 }
+    ∷ record { hears = set (frame ToDevice (commandOf 0x21 70 [])) 0 0x03; gives = answer70 }
     ∷ asks 0x21 70 "" "P,000000000500,000000000500,000000000000" idle
     ∷ [])
     (marked 0x20 70 ∷ marked 0x21 70 ∷ [])

@@ -1,21 +1,22 @@
 // The protocol papers' own frames: each is built, read back, and broken by one byte.
 use libc::STDOUT_FILENO;
+use wire::ANSWER_ROOM;
 use wire::Built;
-use wire::Kind;
+use wire::Way;
 
 fn main() {
     papers();
     tell(
         b"01h inside a frame: ",
         reader::listen(
-            Kind::Command,
+            Way::ToDevice,
             b"\x01\x24\x50\x01\x24\x50\x4A\x05\x30\x30\x3C\x33\x03",
         ),
     );
     tell(
         b"01h directly after 01h: ",
         reader::listen(
-            Kind::Command,
+            Way::ToDevice,
             b"\x01\x01\x24\x50\x4A\x05\x30\x30\x3C\x33\x03",
         ),
     );
@@ -51,19 +52,19 @@ fn refused() {
 }
 
 fn command(name: &[u8], seq: u8, code: u8, content: &[u8]) {
-    let mut buf = [0u8; 217];
+    let mut buf = [0u8; ANSWER_ROOM];
     let built = wire::build::build_command(&mut buf, seq, code, content);
-    report(name, Kind::Command, built, buf);
+    report(name, Way::ToDevice, built, buf);
 }
 
 fn answer(name: &[u8], seq: u8, code: u8, content: &[u8], status: [u8; 6]) {
-    let mut buf = [0u8; 217];
+    let mut buf = [0u8; ANSWER_ROOM];
     let built = wire::build::build_answer(&mut buf, seq, code, content, status);
-    report(name, Kind::Answer, built, buf);
+    report(name, Way::ToTill, built, buf);
 }
 
 // The frame, what it is read as, and what becomes of it when one byte is another.
-fn report(name: &[u8], kind: Kind, built: Built, buf: [u8; 217]) {
+fn report(name: &[u8], way: Way, built: Built, buf: [u8; ANSWER_ROOM]) {
     word(name);
     let Built::Frame(n) = built else {
         word(b"  8\n");
@@ -72,25 +73,25 @@ fn report(name: &[u8], kind: Kind, built: Built, buf: [u8; 217]) {
     if n < 10 {
         return;
     }
-    if 217 < n {
+    if ANSWER_ROOM < n {
         return;
     }
     show(&buf[0..n]);
-    tell(b"  read back: ", reader::listen(kind, &buf[0..n]));
+    tell(b"  read back: ", reader::listen(way, &buf[0..n]));
     let mut other = buf;
     let at = n - 2;
     other[at] = 0x40;
-    tell(b"  last BCC byte 40h: ", reader::listen(kind, &other));
+    tell(b"  last BCC byte 40h: ", reader::listen(way, &other));
     word(b"  whole with any one byte changed: ");
-    count(changed(kind, buf, n));
+    count(changed(way, buf, n));
     word(b"\n");
 }
 
 // 1 where the frame is still heard as whole when one of its n bytes is the next value up, 0 where it never is.
-fn changed(kind: Kind, buf: [u8; 217], n: usize) -> usize {
+fn changed(way: Way, buf: [u8; ANSWER_ROOM], n: usize) -> usize {
     let mut i = 0;
     while i < n {
-        if 0 < changed_at(kind, buf, i) {
+        if 0 < changed_at(way, buf, i) {
             return 1;
         }
         i += 1;
@@ -98,14 +99,14 @@ fn changed(kind: Kind, buf: [u8; 217], n: usize) -> usize {
     0
 }
 
-fn changed_at(kind: Kind, buf: [u8; 217], at: usize) -> usize {
-    if 217 <= at {
+fn changed_at(way: Way, buf: [u8; ANSWER_ROOM], at: usize) -> usize {
+    if ANSWER_ROOM <= at {
         return 0;
     }
     let mut other = buf;
     let b = other[at];
     other[at] = next(b);
-    let told = reader::listen(kind, &other);
+    let told = reader::listen(way, &other);
     told.whole
 }
 

@@ -9,7 +9,6 @@ use lib.Seq.{ext-getD}
 use Rattle.kinds.specs.declared.Command.{Command}
 use Rattle.kinds.specs.declared.Mode.{Mode}
 use Rattle.kinds.specs.declared.Mode.the-variants.{N, C, D, B}
-use Rattle.books.specs.Books.{freshBooks}
 use Rattle.books.specs.Groups.{at}
 use Rattle.books.specs.Registers.{place}
 use Rattle.books.specs.declared.Books.{Books}
@@ -24,10 +23,11 @@ use Rattle.rules.specs.Views.{viewOf}
 use Rattle.rules.specs.declared.views.View.{View}
 use Rattle.rules.specs.declared.views.View.the-variants.{Asks}
 use Rattle.rules.specs.declared.views.When.the-variants.{Always}
+use Rattle.store.specs.Store.{Store, freshStore}
 use Rattle.deeds.specs.Deeds.{carriedOut}
 use Rattle.deeds.specs.declared.Deed.{Deed}
 use Rattle.answers.specs.Contents.{contentOf}
-use Rattle.history.specs.Agrees.{Says, Agrees, toldBooks}
+use Rattle.history.specs.Agrees.{Says, Agrees, toldBooks, toldStore}
 use Rattle.history.specs.Digits.{Given}
 use Rattle.history.specs.Entries.{Entry, entryOf, isDone}
 use Rattle.history.specs.History.{Figures, receiptTotal, paidSum, figuresOf, after}
@@ -44,10 +44,11 @@ more f b h k v i (refused m l) = h
 more f b h k v i (goes free) = agreeing f b h k v free (left-fits b k v i)
 
 -- from any past in agreement, by any command as data gives it
-pub agreement-stays : (es : List Entry) (b : Books) (c : Command) → Reached b → Given (viewOf c) → Agrees es b → Agrees (entryOf b c (carriedOut b c) ∷ es) (carriedOut b c .books)
-agreement-stays es b c k i h = more (figuresOf es) b h k (viewOf c) i (taken b c)
+pub agreement-stays : (es : List Entry) (s : Store) (c : Command) → Reached (s .books) → Given (viewOf c) → Agrees es s
+    → Agrees (entryOf (s .books) c (carriedOut (s .books) c) ∷ es) (record { books = carriedOut (s .books) c .books })
+agreement-stays es s c k i h = more (figuresOf es) (s .books) h k (viewOf c) i (taken (s .books) c)
 
-pub fresh-agrees : Agrees [] freshBooks
+pub fresh-agrees : Agrees [] freshStore
 fresh-agrees =
     record {
       opened = refl;
@@ -60,8 +61,8 @@ fresh-agrees =
     }
 
 -- what is due is never cut off at zero
-pub never-overpaid : (es : List Entry) (b : Books) → Reached b → Agrees es b → paidSum es ≤ receiptTotal es
-never-overpaid es b k h = omega (arith, h .receipt .paid, h .receipt .total, k .receipt .not-overpaid)
+pub never-overpaid : (es : List Entry) (s : Store) → Reached (s .books) → Agrees es s → paidSum es ≤ receiptTotal es
+never-overpaid es s k h = omega (arith, h .receipt .paid, h .receipt .total, k .receipt .not-overpaid)
 
 -- four places are all of a list of four
 four-told : (l : List ℕ) → length l ≡ 4 → (t : Mode → ℕ) → ((m : Mode) → place m < 4 → at l (place m) ≡ t m) → l ≡ t N ∷ t C ∷ t D ∷ t B ∷ []
@@ -87,9 +88,9 @@ same-books : (b : Books) {o : Opened} {r : Receipt} {day registers : List ℕ} {
     → b ≡ record { opened = o; receipt = r; day = day; registers = registers; drawer = d; counters = c; memory = m }
 same-books b e1 e2 e3 e4 e5 e6 e7 = rw (sym e1, sym e2, sym e3, sym e4, sym e5, sym e6, sym e7)
 
--- so the entries alone tell the whole books
-pub agreed-is-told : (es : List Entry) (b : Books) → Reached b → Agrees es b → b ≡ toldBooks es
-agreed-is-told es b k h =
+-- so the entries alone tell all that is remembered
+books-told : (es : List Entry) (b : Books) → Reached b → Says (figuresOf es) b → b ≡ toldBooks es
+books-told es b k h =
     let f = figuresOf es in
     let r = h .receipt in
     let d = h .drawer in
@@ -97,3 +98,6 @@ agreed-is-told es b k h =
     let day = sym (eight-at (b .day) (k .eight-sums)) ∙ same-eight (at (b .day)) (f .day) (h .day) in
     same-books b (h .opened) (same-receipt (b .receipt) groups (r .total) (r .lines) (r .paid) (r .tried) (r .settled)) day
     (four-told (b .registers) (k .four-registers) (f .registers) (h .registers)) (same-drawer (b .drawer) (d .cash) (d .put) (d .taken)) (h .counters) (h .memory)
+
+pub agreed-is-told : (es : List Entry) (s : Store) → Reached (s .books) → Agrees es s → s ≡ toldStore es
+agreed-is-told es s k h = ap (λ b. record { books = b }) (books-told es (s .books) k h)

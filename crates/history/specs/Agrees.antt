@@ -9,6 +9,7 @@ use Rattle.books.specs.Registers.{place}
 use Rattle.books.specs.declared.Books.{Books}
 use Rattle.books.specs.declared.Drawer.{Drawer}
 use Rattle.receipt.specs.declared.Receipt.{Receipt}
+use Rattle.store.specs.Store.{Store}
 use Rattle.history.specs.Entries.{Entry}
 use Rattle.history.specs.History.{ReceiptTold, DrawerTold, Figures, totalIn, dueIn, figuresOf}
 
@@ -39,8 +40,8 @@ pub record Says (f : Figures) (books : Books) : Type 0 where
   pub counters : books .counters ≡ f .counters
   pub memory : books .memory ≡ f .memory
 
-abbrev pub Agrees : List Entry → Books → Type 0
-Agrees es books = Says (figuresOf es) books
+abbrev pub Agrees : List Entry → Store → Type 0
+Agrees es s = Says (figuresOf es) (s .books)
 
 -- PROTOCOL 8.3: the books as the entries alone tell them, no field left out
 abbrev pub booksBy : Figures → Books
@@ -64,3 +65,7 @@ booksBy f =
 
 abbrev pub toldBooks : List Entry → Books
 toldBooks es = booksBy (figuresOf es)
+
+-- PROTOCOL 8.3: and all that a device remembers
+abbrev pub toldStore : List Entry → Store
+toldStore es = record { books = toldBooks es }

@@ -7,7 +7,7 @@ use lib.ListN.{length, getD}
 use Rattle.wire.specs.Bytes.{within}
 use Rattle.text.specs.Parts.{has, upTo, past}
 use Rattle.figures.specs.Numbers.{fieldOf}
-use Rattle.lines.specs.Texts.{isText}
+use Rattle.labels.specs.Texts.{isText}
 use Rattle.kinds.specs.Fields.{fieldThen, comma}
 use Rattle.kinds.specs.declared.Command.{Command}
 use Rattle.kinds.specs.declared.Command.the-variants.{PrintText, Open, Subtotal, Sums, Closing}

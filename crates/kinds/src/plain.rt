@@ -20,7 +20,7 @@ pub fn bare(command: Command, s: &[u8]) -> Parsed
 pub fn text(s: &[u8]) -> Parsed
     ensures { λ r. ⌜ r ≡ textOf (now (s .entry)) ⌝ }
 {
-    if lines::is_text(s) {
+    if labels::is_text(s) {
         return Parsed::Read(Command::PrintText);
     }
     Parsed::Syntax

@@ -2,7 +2,10 @@
 use device::Device;
 use device::Given;
 use libc::STDOUT_FILENO;
+use reader::FRAME_ROOM;
+use wire::ANSWER_ROOM;
 use wire::Built;
+use wire::COMMAND_ROOM;
 
 fn main() {
     word(b"999999.99: ");
@@ -15,8 +18,8 @@ fn main() {
 
 // Lines of this sale on one receipt of a fresh device, until one is refused.
 fn fill(sale: &[u8]) {
-    let mut frame = [0u8; 256];
-    let mut last = [0u8; 217];
+    let mut frame = [0u8; FRAME_ROOM];
+    let mut last = [0u8; ANSWER_ROOM];
     let mut given = send(
         device::fresh(),
         &mut frame,
@@ -56,17 +59,17 @@ fn seq(n: u64) -> u8 {
 // A command, as the device hears it: its whole frame. The bytes given back are not looked at.
 fn send(
     device: Device,
-    frame: &mut [u8; 256],
-    last: &mut [u8; 217],
+    frame: &mut [u8; FRAME_ROOM],
+    last: &mut [u8; ANSWER_ROOM],
     seq: u8,
     code: u8,
     content: &[u8],
 ) -> Given {
-    let mut buf = [0u8; 217];
-    let mut sent = [0u8; 210];
+    let mut buf = [0u8; ANSWER_ROOM];
+    let mut sent = [0u8; COMMAND_ROOM];
     let built = wire::build::build_command(&mut sent, seq, code, content);
     let n = size_of(built);
-    if 210 < n {
+    if COMMAND_ROOM < n {
         return not_sent(device);
     }
     let heard = device::hear(device, frame, last, &mut buf, &sent[0..n]);
@@ -83,11 +86,11 @@ fn not_sent(device: Device) -> Given {
 
 // Command 42 with n data bytes.
 fn sends(n: usize) {
-    let letters = [b'x'; 210];
-    if 210 < n {
+    let letters = [b'x'; COMMAND_ROOM];
+    if COMMAND_ROOM < n {
         return;
     }
-    let mut sent = [0u8; 210];
+    let mut sent = [0u8; COMMAND_ROOM];
     let built = wire::build::build_command(&mut sent, 0x20, 42, &letters[0..n]);
     word(b"data of ");
     io::print_decimal(STDOUT_FILENO, n as u64);

@@ -9,13 +9,13 @@ use lib.Dec.{eqb}
 use lib.ListN.{length, getD, drop, drop-of-length-le}
 use lib.Seq.{drop-cons}
 use borrow.Author.Tests.{eq-eqb, ne-eqb}
-use Rattle.wire.specs.declared.Kind.the-variants.{Command}
+use Rattle.wire.specs.declared.Way.the-variants.{ToDevice}
 use Rattle.reader.specs.Reading.{read}
 use Rattle.reader.specs.Fields.{placeOf, heardOf, isSilent}
-use Rattle.reader.specs.Stretches.{Stretched, further, stretched}
+use Rattle.stretches.specs.Stretches.{Stretched, further, stretched}
 use Rattle.reader.specs.declared.Heard.{Heard}
 use Rattle.reader.specs.declared.Heard.the-variants as heards
-use Rattle.reader.specs.declared.Stretch.{Stretch}
+use Rattle.stretches.specs.declared.Stretch.{Stretch}
 use Rattle.line.specs.Calls.{callFor, isRepeat, isQuiet, calledOf}
 use Rattle.line.specs.Listening.{frameAfter, listenedTo, frameBehind}
 use Rattle.line.specs.declared.Call.the-variants.{Quiet, Again, Order}
@@ -55,12 +55,12 @@ abbrev listenedOf : Line → Stretch → Listened
 listenedOf l s = record { line = record { reader = s .reader; previous = l .previous }; call = callFor (l .previous) (s .heard); taken = s .taken }
 
 as-stretch : (bytes : List ℕ) (l : Line) (frame : List ℕ)
-    → (listenedTo l frame bytes ≡ listenedOf l (stretched Command (l .reader) frame bytes .stretch)) × (frameBehind l frame bytes ≡ stretched Command (l .reader) frame bytes .array)
+    → (listenedTo l frame bytes ≡ listenedOf l (stretched ToDevice (l .reader) frame bytes .stretch)) × (frameBehind l frame bytes ≡ stretched ToDevice (l .reader) frame bytes .array)
 as-stretch [] l frame = (refl, refl)
 as-stretch (b ∷ bs) l frame = go (isSilent h) (quiet-silent (l .previous) h) (as-stretch bs now kept)
   where
     h : Heard
-    h = heardOf (read Command (placeOf (l .reader) frame) b .event)
+    h = heardOf (read ToDevice (placeOf (l .reader) frame) b .event)
 
     now : Line
     now = calledOf l frame b .line
@@ -72,7 +72,7 @@ as-stretch (b ∷ bs) l frame = go (isSilent h) (quiet-silent (l .previous) h) (
     later = listenedTo now kept bs
 
     rest : Stretched
-    rest = stretched Command (now .reader) kept bs
+    rest = stretched ToDevice (now .reader) kept bs
 
     Same : Bool → Bool → Type 0
     Same quiet silent =
@@ -91,7 +91,7 @@ as-stretch (b ∷ bs) l frame = go (isSilent h) (quiet-silent (l .previous) h) (
     go s q e = subst (λ z. Same z s) (sym q) (both s e)
 
 -- so is what the code gives back
-pub listens : (l : Line) (frame bytes : List ℕ) (s : Stretch) (frame' : List ℕ) → record { stretch = s; array = frame' } ≡ stretched Command (l .reader) frame bytes
+pub listens : (l : Line) (frame bytes : List ℕ) (s : Stretch) (frame' : List ℕ) → record { stretch = s; array = frame' } ≡ stretched ToDevice (l .reader) frame bytes
     → (r : Listened) → r ≡ listenedOf l s → (r ≡ listenedTo l frame bytes) × (frame' ≡ frameBehind l frame bytes)
 listens l frame bytes s frame' e r er =
     let whole = as-stretch bytes l frame in

@@ -4,7 +4,7 @@ use mathlib.Core.Bool.{Bool, true, false, cond, _&&_}
 use mathlib.Core.List.{List}
 use lib.Dec.{eqb}
 use lib.ListN.{take}
-use Rattle.wire.specs.declared.Kind.the-variants.{Command}
+use Rattle.wire.specs.declared.Way.the-variants.{ToDevice}
 use Rattle.reader.specs.Reading.{Event, read}
 use Rattle.reader.specs.Fields.{placeOf, readerOf, heardOf}
 use Rattle.reader.specs.declared.Heard.{Heard}
@@ -49,7 +49,7 @@ pub record Called : Type 0 where
 
 abbrev pub calledOf : Line → List ℕ → ℕ → Called
 calledOf l frame b =
-    let step = read Command (placeOf (l .reader) frame) b in
+    let step = read ToDevice (placeOf (l .reader) frame) b in
     record { line = record { reader = readerOf (step .place); previous = l .previous }; call = callOf (l .previous) (step .event) }
 
 -- a byte that asks for nothing

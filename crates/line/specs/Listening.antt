@@ -2,7 +2,7 @@
 use Prim.Native.Nat.{ℕ, _+_}
 use mathlib.Core.Bool.{cond}
 use mathlib.Core.List.{List, [], _∷_}
-use Rattle.wire.specs.declared.Kind.the-variants.{Command}
+use Rattle.wire.specs.declared.Way.the-variants.{ToDevice}
 use Rattle.reader.specs.Reading.{read}
 use Rattle.reader.specs.Fields.{placeOf, keptIn}
 use Rattle.line.specs.Calls.{isQuiet, calledOf}
@@ -12,7 +12,7 @@ use Rattle.line.specs.declared.Listened.{Listened}
 
 -- the lent frame with one byte more
 abbrev pub frameAfter : Line → List ℕ → ℕ → List ℕ
-frameAfter l frame b = keptIn frame (read Command (placeOf (l .reader) frame) b .place)
+frameAfter l frame b = keptIn frame (read ToDevice (placeOf (l .reader) frame) b .place)
 
 abbrev pub listenedTo : Line → (frame bytes : List ℕ) → Listened
 listenedTo l frame [] = record { line = l; call = Quiet; taken = 0 }

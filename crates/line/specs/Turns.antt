@@ -5,7 +5,7 @@ use mathlib.Core.Bool.{Bool, false, cond, _&&_}
 use mathlib.Core.List.{List, [], _∷_, _++_}
 use lib.Dec.{eqb}
 use Rattle.wire.specs.Frame.{Message}
-use Rattle.wire.specs.declared.Kind.the-variants.{Command}
+use Rattle.wire.specs.declared.Way.the-variants.{ToDevice}
 use Rattle.reader.specs.Reading.{Place, outside, Event, nothing, brokenFrame, heard, read}
 
 -- PROTOCOL 1.10: the whole frame before, with its answer; a fresh device has none
@@ -23,7 +23,7 @@ pub record State (B : Type 0) : Type 0 where
 abbrev pub switchedOn : {B : Type 0} → B → State B
 switchedOn store = record { place = outside; before = none; store = store }
 
--- PROTOCOL 1.11: a command carried out: its reply number, what it leaves behind, and its whole answer frame. DECISIONS 62: the lead goes out before the answer
+-- PROTOCOL 1.11: a command carried out: its reply number, what it leaves behind, and its whole answer frame. DECISIONS 63: the lead goes out before the answer
 -- and is no part of it: a repeat has none
 pub record Carried (B : Type 0) : Type 0 where
   pub number : ℕ
@@ -76,7 +76,7 @@ module _ {B : Type 0} (carry : B → Message → Carried B) where
 
   -- PROTOCOL 1.1: one byte
   abbrev pub turn : State B → ℕ → Turn B
-  turn s b = onEvent s (read Command (s .place) b .place) (read Command (s .place) b .event)
+  turn s b = onEvent s (read ToDevice (s .place) b .place) (read ToDevice (s .place) b .event)
 
   -- PROTOCOL 1.1: bytes heard one after the other
   abbrev pub session : State B → List ℕ → Session B

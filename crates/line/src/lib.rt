@@ -2,7 +2,6 @@
 use reader::FRAME_ROOM;
 use reader::Heard;
 use reader::Reader;
-use reader::stretches;
 ghost use mathlib.Core.Path.{_≡_};
 ghost use Rattle.reader.specs.Reading.{outside};
 ghost use Rattle.reader.specs.Fields.{readerOf};
@@ -20,6 +19,9 @@ pub struct Line {
     pub reader: Reader,
     pub previous: Previous,
 }
+
+// How many bytes the lent frame has from its fourth on.
+pub const MOST_HELD: usize = 253;
 
 // An order's data stands in the lent frame from its fourth byte on.
 pub enum Call {

@@ -4,6 +4,8 @@ use device::Device;
 use device::Hearing;
 use libc::STDIN_FILENO;
 use libc::STDOUT_FILENO;
+use reader::FRAME_ROOM;
+use wire::ANSWER_ROOM;
 ghost use Prim.Native.Nat.{_≤_, _<_};
 ghost use lib.ListN.{length};
 
@@ -20,8 +22,8 @@ struct Done {
 }
 
 fn main() {
-    let mut frame = [0u8; 256];
-    let mut last = [0u8; 217];
+    let mut frame = [0u8; FRAME_ROOM];
+    let mut last = [0u8; ANSWER_ROOM];
     let mut device = device::fresh();
     let mut turns = 9223372036854775807u64;
     while turns > 0 {
@@ -52,8 +54,8 @@ fn some(chunk: &mut [u8]) -> usize {
 // The first n bytes of a chunk, call by call.
 fn answer(
     device: Device,
-    frame: &mut [u8; 256],
-    last: &mut [u8; 217],
+    frame: &mut [u8; FRAME_ROOM],
+    last: &mut [u8; ANSWER_ROOM],
     chunk: &[u8],
     n: usize,
 ) -> Stand {
@@ -77,11 +79,16 @@ fn answer(
 }
 
 // One call, and what it gives back written out at once.
-fn call(device: Device, frame: &mut [u8; 256], last: &mut [u8; 217], bytes: &[u8]) -> Done
+fn call(
+    device: Device,
+    frame: &mut [u8; FRAME_ROOM],
+    last: &mut [u8; ANSWER_ROOM],
+    bytes: &[u8],
+) -> Done
     ensures { λ r. ⌜ r .heard .taken ≤ length (now (bytes .entry)) ⌝ }
     ensures { λ r. ⌜ (0 < length (now (bytes .entry)) → 0 < r .heard .taken) ⌝ }
 {
-    let mut buf = [0u8; 217];
+    let mut buf = [0u8; ANSWER_ROOM];
     let heard = device::hear(device, frame, last, &mut buf, bytes);
     let given = heard.given;
     let count = given.count;

@@ -8,7 +8,7 @@ use lib.ListN.{length}
 use lib.Seq.{length-sets}
 use borrow.Author.Tests.{leb-true}
 use Rattle.wire.specs.Frame.{Message}
-use Rattle.wire.specs.declared.Kind.the-variants.{Command}
+use Rattle.wire.specs.declared.Way.the-variants.{ToDevice}
 use Rattle.reader.specs.Reading.{Place, Event, nothing, brokenFrame, heard, Read, read}
 use Rattle.reader.proofs.Holding.{Underway, underway-few, underway-read}
 use Rattle.reader.proofs.Running.{kept-length}
@@ -40,7 +40,7 @@ use Rattle.promises.proofs.Sizes.{answer-length}
 pub record DeviceOk (m : device.Machine) : Type 0 where
   pub frames : length (m .frame) ≡ 256
   pub lasts : length (m .last) ≡ 217
-  pub short : Underway Command (device.stateOf m .place)
+  pub short : Underway ToDevice (device.stateOf m .place)
   pub reached : Reached (m .device .books)
 
 -- at most 217 bytes are given back: an answer, or the last one
@@ -71,7 +71,7 @@ module _ (m : device.Machine) (ok : DeviceOk m) where
 
   module _ (x : ℕ) (lent : device.Lent) where
     abbrev at : Read
-    at = read Command (here .place) x
+    at = read ToDevice (here .place) x
 
     -- the turn of an event, and the device and what is lent behind it
     abbrev turned : Event → line.Turn Store
@@ -87,17 +87,17 @@ module _ (m : device.Machine) (ok : DeviceOk m) where
       back : device.stateOf (after e .machine) ≡ turned e .state
       back =
           subst (λ z. device.stateOf (after z .machine) ≡ turned z .state) is
-          (state-back m (ok .lasts) x (underway-few Command (here .place) (ok .short)) (ok .frames) (few-given (at .place) (at .event)))
+          (state-back m (ok .lasts) x (underway-few ToDevice (here .place) (ok .short)) (ok .frames) (few-given (at .place) (at .event)))
 
-      short-now : Underway Command (turned e .state .place)
-      short-now = subst (Underway Command) (sym (place-kept m (ok .lasts) (at .place) e)) (underway-read Command (here .place) x (ok .short))
+      short-now : Underway ToDevice (turned e .state .place)
+      short-now = subst (Underway ToDevice) (sym (place-kept m (ok .lasts) (at .place) e)) (underway-read ToDevice (here .place) x (ok .short))
 
       ok-after : DeviceOk (after e .machine)
       ok-after =
           record {
             frames = kept-length (m .frame) (turned e .state .place) ∙ ok .frames;
             lasts = last-kept (turned e .state .before) (turned e .carried);
-            short = subst (Underway Command) (sym (ap (λ (s : line.State Store). s .place) back)) short-now;
+            short = subst (Underway ToDevice) (sym (ap (λ (s : line.State Store). s .place) back)) short-now;
             reached = event-stays here (at .place) e (ok .reached);
           }
 
@@ -124,7 +124,7 @@ pub record HeardBy (t : till.State) (m : device.Machine) (lent : device.Lent) (b
 
 module _ (t : till.State) (lent : device.Lent) (room : device.enough lent ≡ true) where
   asked : (m : device.Machine) (ok : DeviceOk m) (x : ℕ) (bytes : List ℕ) (e : Event) (call : Call)
-      → read Command (device.stateOf m .place) x .event ≡ e → isAsking e ≡ true
+      → read ToDevice (device.stateOf m .place) x .event ≡ e → isAsking e ≡ true
       → HeardBy t m lent (x ∷ bytes) (record { after = after m ok x lent e; call = call; taken = 1 })
   asked m ok x bytes e call is some =
       record {

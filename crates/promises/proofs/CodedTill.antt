@@ -8,7 +8,7 @@ use lib.Dec.{ltb}
 use lib.ListN.{length, take}
 use lib.Seq.{sets, length-sets}
 use Rattle.wire.specs.Frame.{commandOf, sendable}
-use Rattle.wire.specs.declared.Kind.the-variants.{Command, Answer}
+use Rattle.wire.specs.declared.Way.the-variants.{ToDevice, ToTill}
 use Rattle.reader.specs.Reading.{Place, outside, inside, read}
 use Rattle.reader.proofs.Holding.{Underway, underway-few}
 use Rattle.reader.specs.Fields.{readerOf}
@@ -54,7 +54,7 @@ meant-count next seq code bytes tries (till.answers m) = refl
 
 taken-count : (next : ℕ) (p : till.Pending) (h : till.Happening)
     → givenIn (till.takes (record { next = next; pending = p }) h .word) ≡ length (till.takes (record { next = next; pending = p }) h .puts)
-taken-count next till.idle (till.command code content) = go (sendable Command (commandOf next code content))
+taken-count next till.idle (till.command code content) = go (sendable ToDevice (commandOf next code content))
   where
     go : (can : Bool)
         → givenIn (cond can (till.sent next (commandOf next code content)) (till.stays NotSent (record { next = next; pending = till.idle })) .word)
@@ -82,9 +82,9 @@ bytes-of s z = go (s .pending) z
     go till.idle z = tt
     go (till.waits seq code bytes tries ear) z = (omega (arith, z .0), few (ear .place) (z .1))
       where
-        few : (p : Place) → Underway Answer p → readerOf p .count < 256
+        few : (p : Place) → Underway ToTill p → readerOf p .count < 256
         few outside u = omega arith
-        few (inside sum read) u = underway-few Answer (inside sum read) u
+        few (inside sum read) u = underway-few ToTill (inside sum read) u
 
 framed-length : (array : List ℕ) (p : till.Pending) → length (fields.framed array p) ≡ length array
 framed-length array till.idle = refl
@@ -124,7 +124,7 @@ module _ (array : List ℕ) where
 
   answer-stays : (next : ℕ) (p : till.Pending) → fields.heldIn array p ≡ array → (h : till.Happening) → isByte h ≡ false
       → fields.heldIn array (till.takes (record { next = next; pending = p }) h .state .pending) ≡ array
-  answer-stays next till.idle e (till.command code content) l = go (sendable Command (commandOf next code content))
+  answer-stays next till.idle e (till.command code content) l = go (sendable ToDevice (commandOf next code content))
     where
       go : (can : Bool)
           → fields.heldIn array (cond can (till.sent next (commandOf next code content)) (till.stays NotSent (record { next = next; pending = till.idle })) .state .pending) ≡ array

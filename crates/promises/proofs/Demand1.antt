@@ -8,7 +8,7 @@ use lib.Dec.{ltb}
 use lib.ListN.{length}
 use borrow.Author.Tests.{ltb-true}
 use Rattle.wire.specs.Frame.{commandOf, sendable}
-use Rattle.wire.specs.declared.Kind.the-variants.{Command}
+use Rattle.wire.specs.declared.Way.the-variants.{ToDevice}
 use Rattle.reader.specs.Reading.{Place, Event, nothing, brokenFrame, heard, read}
 use Rattle.books.specs.declared.Books.{Books}
 use Rattle.kinds.specs.declared.Parsed.{Parsed}
@@ -85,7 +85,7 @@ pub turn-stays : (lent : Lent) (s : line.State Store) (byte : ℕ) → Reached (
 turn-stays lent s byte r = go (enough lent)
   where
     go : (long : Bool) → Reached (cond long (line.turn carry s byte) (device-rows.short7 s) .state .store .books)
-    go true = event-stays s (read Command (s .place) byte .place) (read Command (s .place) byte .event) r
+    go true = event-stays s (read ToDevice (s .place) byte .place) (read ToDevice (s .place) byte .event) r
     go false = r
 
 -- and the tries stay at five at most
@@ -105,7 +105,7 @@ few-meant next seq code bytes tries (till.goesOn q) h = h
 few-meant next seq code bytes tries (till.answers m) h = omega arith
 
 few-taken : (next : ℕ) (p : till.Pending) (h : till.Happening) → till-rows.triesOf p ≤ 5 → Few (till.takes (record { next = next; pending = p }) h)
-few-taken next till.idle (till.command code content) few = go (sendable Command (commandOf next code content))
+few-taken next till.idle (till.command code content) few = go (sendable ToDevice (commandOf next code content))
   where
     go : (can : Bool) → Few (cond can (till.sent next (commandOf next code content)) (till.stays NotSent (record { next = next; pending = till.idle })))
     go true = omega arith

@@ -7,8 +7,8 @@ use Prim.Native.Nat.{ℕ, _+_, _-_, _^_, _≤_, _<_}
 use native.Mathlib.Omega.{arith}
 use lib.ListN.{length, replicate}
 use Rattle.wire.specs.Frame.{Message, frame, inner, sendable}
-use Rattle.wire.specs.declared.Kind.{Kind}
-use Rattle.wire.specs.declared.Kind.the-variants.{Command, Answer}
+use Rattle.wire.specs.declared.Way.{Way}
+use Rattle.wire.specs.declared.Way.the-variants.{ToDevice, ToTill}
 use Rattle.reader.specs.Reading.{Place, outside, nothing, heard, startsAnew, read, run}
 use Rattle.reader.proofs.RoundTrip.{read-what-was-built, parts}
 use Rattle.reader.proofs.History.{built-is-all-that-is-read}
@@ -19,13 +19,14 @@ use Rattle.kinds.specs.declared.Service.{Service}
 use Rattle.command.specs.Commands.{parsedOf}
 use Rattle.store.specs.Store.{Store}
 use Rattle.answers.proofs.Shown.{shown-sendable}
-use Rattle.history.specs.Agrees.{Agrees, toldBooks}
+use Rattle.history.specs.Agrees.{Agrees, toldStore}
 use Rattle.history.specs.Digits.{InDigits, leftOf}
 use Rattle.history.specs.History.{receiptTotal, paidSum, putIn, takenOut}
 use Rattle.history.proofs.Digits.{digits-fit, rest-and-change-fit}
 use Rattle.history.proofs.Histories.{never-overpaid, agreed-is-told}
 use Rattle.line.specs.Turns.{State, Session}
 use Rattle.carrying.specs.Carrying.{deedFor, answerTo, carry}
+use Rattle.device.specs.Device.{storeOf}
 use Rattle.recorder.specs.Recording.{recording}
 use Rattle.till.specs.Turns as turns
 use Rattle.attempts.specs.History.{history, heardBytes, words, behind}
@@ -33,40 +34,40 @@ use Rattle.attempts.specs.History as till
 use Rattle.till.specs.declared.Word.the-variants.{Waiting, Answered}
 use Rattle.attempts.proofs.Frames.{answer-heard}
 use Rattle.promises.specs.Coded.{Machines, Fresh, HeardThrough}
-use Rattle.promises.specs.Demand2.{LentByte, alwaysLent, turnBy, turnsOf, deviceAfter, allGiven, allCarried, dataIn, freshDevice, entriesOf, booksAfter, cashIn}
+use Rattle.promises.specs.Demand2.{LentByte, alwaysLent, turnBy, turnsOf, deviceAfter, allGiven, allCarried, dataIn, freshDevice, entriesOf, storeAfter, booksAfter, cashIn}
 use Rattle.promises.proofs.Through.{the-calls-are-the-recording}
 use Rattle.promises.proofs.Demand1.{deed-stays}
 use Rattle.promises.proofs.Joining.{any-history-reached, any-history-agrees, device-after-one, session-turns, cash-in-answer}
 use Rattle.promises.proofs.Verdicts.{Right, syntax, no-kind, is-read, parsed-right}
 
 -- "built and read alike": the frame of whatever can be sent, read from any place, is heard as exactly that
-pub what-is-built-is-read : (k : Kind) (m : Message) → sendable k m ≡ true → (p : Place)
+pub what-is-built-is-read : (k : Way) (m : Message) → sendable k m ≡ true → (p : Place)
     → run k p (frame k m) ≡ record { place = outside; events = startsAnew p ∷ (replicate (length (inner k m) + 8) nothing ++ heard m ∷ []) }
 what-is-built-is-read = read-what-was-built
 
 -- and whatever is heard as whole, after any bytes, is the frame of what was heard
-pub what-is-read-was-built : (k : Kind) (bytes : List ℕ) (b : ℕ) (m : Message) → read k (run k outside bytes .place) b .event ≡ heard m
+pub what-is-read-was-built : (k : Way) (bytes : List ℕ) (b : ℕ) (m : Message) → read k (run k outside bytes .place) b .event ≡ heard m
     → (sendable k m ≡ true) × ((before : List ℕ) × (bytes ++ b ∷ [] ≡ before ++ frame k m))
 what-is-read-was-built = built-is-all-that-is-read
 
 -- every answer of a device that was fresh, to whatever can be sent, is an answer that can be sent
-pub every-answer-can-be-sent : (arrived : List LentByte) (m : Message) → sendable Command m ≡ true
-    → sendable Answer (answerTo (booksAfter arrived) (m .seq) (m .code) (deedFor (booksAfter arrived) (parsedOf (m .code) (m .content)))) ≡ true
+pub every-answer-can-be-sent : (arrived : List LentByte) (m : Message) → sendable ToDevice m ≡ true
+    → sendable ToTill (answerTo (booksAfter arrived) (m .seq) (m .code) (deedFor (booksAfter arrived) (parsedOf (m .code) (m .content)))) ≡ true
 every-answer-can-be-sent arrived m e =
     let b = booksAfter arrived in
     let d = deedFor b (parsedOf (m .code) (m .content)) in
     let before = any-history-reached arrived in
     let after = deed-stays b (parsedOf (m .code) (m .content)) before in
-    let marks = parts Command m e in
+    let marks = parts ToDevice m e in
     shown-sendable (m .seq) (m .code) (d .number) (d .shown) (b .day) (d .books) (marks .seq) (marks .code) (before .eight-sums) (after .eight-sums) (after .receipt .eight-groups)
 
 -- and a till end that waits for it, wherever its reading stands, says Waiting up to its last byte and then Answered, with its data and status
-pub both-ends-speak-alike : (arrived : List LentByte) (m : Message) → sendable Command m ≡ true
+pub both-ends-speak-alike : (arrived : List LentByte) (m : Message) → sendable ToDevice m ≡ true
     → (s : turns.State) (sent : List ℕ) (tries : ℕ) (ear : turns.Ear) → s .pending ≡ turns.waits (m .seq) (m .code) sent tries ear
     → let a = answerTo (booksAfter arrived) (m .seq) (m .code) (deedFor (booksAfter arrived) (parsedOf (m .code) (m .content))) in
     let heard-bytes = heardBytes (carry (record { books = booksAfter arrived }) m .answer) in
-    (words (history s heard-bytes) ≡ replicate (length (frame Answer a) - 1) (Waiting 0) ++ Answered (length (a .content ++ a .status)) ∷ [])
-    × ((till.putsOf (history s heard-bytes) ≡ replicate (length (frame Answer a) - 1) [] ++ (a .content ++ a .status) ∷ [])
+    (words (history s heard-bytes) ≡ replicate (length (frame ToTill a) - 1) (Waiting 0) ++ Answered (length (a .content ++ a .status)) ∷ [])
+    × ((till.putsOf (history s heard-bytes) ≡ replicate (length (frame ToTill a) - 1) [] ++ (a .content ++ a .status) ∷ [])
     × (behind s heard-bytes ≡ record { next = s .next; pending = turns.idle }))
 both-ends-speak-alike arrived m e s sent tries ear waiting =
     answer-heard s (m .seq) (m .code) sent tries ear waiting
@@ -93,23 +94,23 @@ cash-is-seen arrived a m s one is70 zero =
 
 -- and every other figure (PROTOCOL 8.3): the open receipt, its lines, whether a 53 was done and whether it is paid in full, day sums, registers, service sums,
 -- counters, closings and FM
-pub every-figure-follows : (arrived : List LentByte) → Agrees (entriesOf arrived) (booksAfter arrived)
+pub every-figure-follows : (arrived : List LentByte) → Agrees (entriesOf arrived) (storeAfter arrived)
 every-figure-follows = any-history-agrees
 
 -- what is due is never cut off at zero
 pub no-more-paid-than-due : (arrived : List LentByte) → paidSum (entriesOf arrived) ≤ receiptTotal (entriesOf arrived)
-no-more-paid-than-due arrived = never-overpaid (entriesOf arrived) (booksAfter arrived) (any-history-reached arrived) (any-history-agrees arrived)
+no-more-paid-than-due arrived = never-overpaid (entriesOf arrived) (storeAfter arrived) (any-history-reached arrived) (any-history-agrees arrived)
 
--- so the entries alone tell the whole books, no field left out
-pub the-entries-tell-the-books : (arrived : List LentByte) → booksAfter arrived ≡ toldBooks (entriesOf arrived)
-the-entries-tell-the-books arrived = agreed-is-told (entriesOf arrived) (booksAfter arrived) (any-history-reached arrived) (any-history-agrees arrived)
+-- so the entries alone tell all that the device remembers, no field left out
+pub the-entries-tell-the-books : (arrived : List LentByte) → storeAfter arrived ≡ toldStore (entriesOf arrived)
+the-entries-tell-the-books arrived = agreed-is-told (entriesOf arrived) (storeAfter arrived) (any-history-reached arrived) (any-history-agrees arrived)
 
-pub and-those-of-a-recording : (bytes : List ℕ) → recording bytes .state .store .books ≡ toldBooks (entriesOf (alwaysLent bytes))
-and-those-of-a-recording bytes = ap (λ (z : Session Store). z .state .store .books) (a-recording-is-its-turns bytes) ∙ the-entries-tell-the-books (alwaysLent bytes)
+pub and-those-of-a-recording : (bytes : List ℕ) → recording bytes .state .store ≡ toldStore (entriesOf (alwaysLent bytes))
+and-those-of-a-recording bytes = ap (λ (z : Session Store). z .state .store) (a-recording-is-its-turns bytes) ∙ the-entries-tell-the-books (alwaysLent bytes)
 
 -- and those behind all calls of the running code, in whatever parts and with whatever buffers it hears the bytes
-pub and-those-of-the-calls : (f g : Machines) → Fresh f → (bytes gives : List ℕ) → HeardThrough f bytes gives g → g .device .device .books ≡ toldBooks (entriesOf (alwaysLent bytes))
-and-those-of-the-calls f g fresh bytes gives h = ap (λ (z : Store). z .books) (the-calls-are-the-recording f g fresh bytes gives h .1) ∙ and-those-of-a-recording bytes
+pub and-those-of-the-calls : (f g : Machines) → Fresh f → (bytes gives : List ℕ) → HeardThrough f bytes gives g → storeOf (g .device) ≡ toldStore (entriesOf (alwaysLent bytes))
+and-those-of-the-calls f g fresh bytes gives h = the-calls-are-the-recording f g fresh bytes gives h .1 ∙ and-those-of-a-recording bytes
 
 -- "No field shown ever passes its digits."
 pub every-field-fits : (arrived : List LentByte) → InDigits (booksAfter arrived)

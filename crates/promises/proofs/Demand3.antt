@@ -13,7 +13,7 @@ use lib.ListN.{length, replicate}
 use lib.Seq.{sets}
 use borrow.Author.Tests.{ne-eqb}
 use Rattle.wire.specs.Frame.{Message, frame, sendable}
-use Rattle.wire.specs.declared.Kind.the-variants.{Command}
+use Rattle.wire.specs.declared.Way.the-variants.{ToDevice}
 use Rattle.wire.proofs.Suits.{both}
 use Rattle.reader.specs.Reading.{outside, brokenFrame}
 use Rattle.store.specs.Store.{Store, freshStore}
@@ -25,7 +25,7 @@ use Rattle.delivery.proofs.Delivered.{carries-out-that-very-list, brings-for-ea
 use Rattle.delivery.proofs.AtMostOnce.{carries-out-what-is-heard, carries-out-those-whole}
 use Rattle.delivery.proofs.PartOf.{carries-out-a-part}
 use Rattle.delivery.proofs.Ended.{ended-by-the-next}
-use Rattle.attempts.specs.History.{Lent, seqOf}
+use Rattle.attempts.specs.History.{LentEvent, seqOf}
 use Rattle.attempts.specs.Handed.{Handed, handedIn, AllInPlace}
 use Rattle.attempts.proofs.Handing.{seqs-differ, frames-are-tries}
 use Rattle.carrying.specs.Carrying.{carry}
@@ -53,7 +53,7 @@ each-try-brings store cs e = brings-for-each-try carry cs e store
 
 -- so a cut try is answered with nothing or with one NAK
 pub a-cut-try-is-answered : (m : Message) (b : Begun) (last : List ℕ) (k : Carried Store) (done : Bool) (count : ℕ)
-    → (givenBack m last k done (brings Command b m (cut count)) ≡ []) ⊎ (givenBack m last k done (brings Command b m (cut count)) ≡ 0x15 ∷ [])
+    → (givenBack m last k done (brings ToDevice b m (cut count)) ≡ []) ⊎ (givenBack m last k done (brings ToDevice b m (cut count)) ≡ 0x15 ∷ [])
 a-cut-try-is-answered m b last k done zero = inl refl
 a-cut-try-is-answered m clear last k done (suc count) = inl refl
 a-cut-try-is-answered m (begun n came) last k done (suc count) = go (ltb 1 came)
@@ -64,8 +64,8 @@ a-cut-try-is-answered m (begun n came) last k done (suc count) = go (ltb 1 came)
 
 -- "the try that lacks only its last byte when the next one's first byte has become 03h": with that byte the command whose frame lacked it is
 -- carried out, or answered again if it is a repeat; of the next try nothing is
-pub ended-by-the-next-try : (m n : Message) → sendable Command m ≡ true → sendable Command n ≡ true → (before : Before) (store : Store)
-    → (count : ℕ) → count + 1 ≡ length (frame Command m) → EndedByTheNext carry (record { place = outside; before = before; store = store }) m n count
+pub ended-by-the-next-try : (m n : Message) → sendable ToDevice m ≡ true → sendable ToDevice n ≡ true → (before : Before) (store : Store)
+    → (count : ℕ) → count + 1 ≡ length (frame ToDevice m) → EndedByTheNext carry (record { place = outside; before = before; store = store }) m n count
 ended-by-the-next-try = ended-by-the-next carry
 
 -- "So two different lists never arrive as the same bytes."
@@ -141,16 +141,16 @@ crosses [] place p (ways ∷ rest) e = absurd (false≢true e)
 crosses (h ∷ hs) place p [] e = absurd (false≢true e)
 crosses (h ∷ hs) place p (ways ∷ rest) e =
     let m = h .command in
-    let f = frame Command m in
+    let f = frame ToDevice m in
     let two = both (eachArrives (h .frames) ways) (allArrive hs rest) e in
     let own = p .0 .tried in
     let n = length (h .frames) in
     let tries = same-frames n f ways (sym (ap (λ z. eachArrives z ways) (own .same)) ∙ two .0) in
     let others = crosses hs (place + 1) (p .1) rest (two .1) in
-    let may = and-true-both (sendable Command m) (all (mayArrive f) ways) (own .can) (tries .0) in
+    let may = and-true-both (sendable ToDevice m) (all (mayArrive f) ways) (own .can) (tries .0) in
     let cs = overTheLine hs rest in
     record {
-      may-come = and-true-both (sendable Command m && all (mayArrive f) ways) (allMayCome cs) may (others .may-come);
+      may-come = and-true-both (sendable ToDevice m && all (mayArrive f) ways) (allMayCome cs) may (others .may-come);
       same-bytes = ap (λ z. z ++ bytesArriving hs rest) (ap (λ z. framesArriving z ways) (own .same) ∙ tries .1)
           ∙ ap (λ z. triesArriving f ways ++ z) (others .same-bytes);
       same-commands = ap (λ z. m ∷ z) (others .same-commands);
@@ -158,14 +158,14 @@ crosses (h ∷ hs) place p (ways ∷ rest) e =
           let whole = both (any isWhole ways) (eachOneWhole rest) w in
           and-true-both (tried (record { command = m; tries = ways }) && differsFrom m cs) (delivery cs)
           (and-true-both (tried (record { command = m; tries = ways })) (differsFrom m cs)
-          (and-true-both (sendable Command m && all (mayArrive f) ways) (any isWhole ways) may (whole .0))
+          (and-true-both (sendable ToDevice m && all (mayArrive f) ways) (any isWhole ways) may (whole .0))
           (seq-differs place m (p .0 .seq) hs rest (p .1)))
           (others .is-delivery (whole .1));
     }
 
 -- whatever happens at a fresh till end, and whatever the line does to each frame that it hands out, at least one of each command arriving whole: the device
 -- carries out the commands that the till end took, each once and in order
-pub the-till-s-commands-are-carried-out : (ls : List Lent) (ways : List (List Arrival)) → allArrive (handedIn ls) ways ≡ true → eachOneWhole ways ≡ true
+pub the-till-s-commands-are-carried-out : (ls : List LentEvent) (ways : List (List Arrival)) → allArrive (handedIn ls) ways ≡ true → eachOneWhole ways ≡ true
     → (delivery (overTheLine (handedIn ls) ways) ≡ true)
     × (recording (bytesArriving (handedIn ls) ways) .carried ≡ takenCommands (handedIn ls))
     × (recording (bytesArriving (handedIn ls) ways) .state .store ≡ carryAll carry freshStore (takenCommands (handedIn ls)))
@@ -179,7 +179,7 @@ the-till-s-commands-are-carried-out ls ways e w =
     )
 
 -- and each at most once and in order, if whole ones are missing
-pub the-till-s-commands-at-most-once : (ls : List Lent) (ways : List (List Arrival)) → allArrive (handedIn ls) ways ≡ true
+pub the-till-s-commands-at-most-once : (ls : List LentEvent) (ways : List (List Arrival)) → allArrive (handedIn ls) ways ≡ true
     → let heard-of = withoutRepeats (allHeard clear (overTheLine (handedIn ls) ways)) in
     (recording (bytesArriving (handedIn ls) ways) .carried ≡ heard-of)
     × (recording (bytesArriving (handedIn ls) ways) .state .store ≡ carryAll carry freshStore heard-of)
@@ -196,7 +196,7 @@ the-till-s-commands-at-most-once ls ways e =
 
 -- exactly those of which a frame arrived whole, where no cut one lacks only its last byte and these neighbours differ: the till end's SEQ comes again
 -- after 224 commands
-pub the-till-s-commands-that-arrived : (ls : List Lent) (ways : List (List Arrival)) → allArrive (handedIn ls) ways ≡ true
+pub the-till-s-commands-that-arrived : (ls : List LentEvent) (ways : List (List Arrival)) → allArrive (handedIn ls) ways ≡ true
     → noneLacksLast (overTheLine (handedIn ls) ways) ≡ true → neighboursDiffer (arrivedWhole (overTheLine (handedIn ls) ways)) ≡ true
     → recording (bytesArriving (handedIn ls) ways) .carried ≡ commands (arrivedWhole (overTheLine (handedIn ls) ways))
 the-till-s-commands-that-arrived ls ways e f d =

@@ -5,7 +5,7 @@ use mathlib.Core.Bool.{Bool, true, false, cond}
 use mathlib.Core.List.{[], _∷_, _++_}
 use Prim.Native.Nat.{ℕ}
 use Rattle.wire.specs.Frame.{Message}
-use Rattle.wire.specs.declared.Kind.the-variants.{Command}
+use Rattle.wire.specs.declared.Way.the-variants.{ToDevice}
 use Rattle.reader.specs.Reading.{Place, Event, nothing, brokenFrame, heard, read}
 use Rattle.books.specs.declared.Books.{Books}
 use Rattle.kinds.specs.declared.Command as kinds
@@ -142,4 +142,4 @@ module _ (s : State Store) where
   same-event next (heard m) = ap (λ k. cond (repeats (s .before) m) (again s next) (ordered s next m k)) (same-carry (s .store) m)
 
   pub as-the-table : (lent : Lent) (byte : ℕ) → lentTurn lent s byte ≡ tableTurn s lent byte
-  as-the-table lent byte = ap (λ z. cond (enough lent) z (short7 s)) (same-event (read Command (s .place) byte .place) (read Command (s .place) byte .event))
+  as-the-table lent byte = ap (λ z. cond (enough lent) z (short7 s)) (same-event (read ToDevice (s .place) byte .place) (read ToDevice (s .place) byte .event))

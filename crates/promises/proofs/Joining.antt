@@ -9,7 +9,7 @@ use lib.Seq.{take-at}
 use Rattle.text.specs.Digits.{digits, number}
 use Rattle.text.proofs.Laws.{length-digits}
 use Rattle.wire.specs.Frame.{Message, answerOf, total, bcc, counted, frame}
-use Rattle.wire.specs.declared.Kind.the-variants as kind
+use Rattle.wire.specs.declared.Way.the-variants as way
 use Rattle.reader.specs.Reading.{Place, Event, nothing, brokenFrame, heard, read}
 use Rattle.kinds.specs.declared.Command.{Command}
 use Rattle.kinds.specs.declared.Command.the-variants.{Drawer}
@@ -36,7 +36,7 @@ use Rattle.history.proofs.Digits.{digits-fit}
 use Rattle.history.proofs.Histories.{fresh-agrees, agreement-stays}
 use Rattle.history.proofs.Laws.{seventy-shows-the-drawer}
 use Rattle.history.proofs.Reaching.{fresh-reached}
-use Rattle.promises.specs.Demand2.{LentByte, alwaysLent, turnBy, turnsOf, deviceAfter, allGiven, allCarried, dataIn, withRead, withTurn, toldBy, freshDevice, entriesOf, booksAfter, cashIn}
+use Rattle.promises.specs.Demand2.{LentByte, alwaysLent, turnBy, turnsOf, deviceAfter, allGiven, allCarried, dataIn, withRead, withTurn, toldBy, freshDevice, entriesOf, storeAfter, booksAfter, cashIn}
 use Rattle.promises.proofs.Demand1.{deed-stays}
 use Rattle.promises.proofs.DeviceRows.{again, short7}
 use Rattle.promises.proofs.Verdicts.{Right, syntax, no-kind, is-read, parsed-right}
@@ -49,25 +49,25 @@ module _ (content behind frame-end bcc-part : List ℕ) where
       ∙ append-assoc (content ++ behind) frame-end (bcc-part ++ (0x03 ∷ []))
       ∙ append-assoc content behind (frame-end ++ (bcc-part ++ (0x03 ∷ [])))
 
-data-read : (seq code : ℕ) (content status : List ℕ) → length status ≡ 6 → dataIn (frame kind.Answer (answerOf seq code content status)) ≡ content
+data-read : (seq code : ℕ) (content status : List ℕ) → length status ≡ 6 → dataIn (frame way.ToTill (answerOf seq code content status)) ≡ content
 data-read seq code content status six =
     let check : List ℕ = bcc (total (counted seq code (content ++ 0x04 ∷ status))) in
     let tail : List ℕ = (0x04 ∷ status) ++ ((0x05 ∷ []) ++ (check ++ (0x03 ∷ []))) in
-    let whole : List ℕ = frame kind.Answer (answerOf seq code content status) in
+    let whole : List ℕ = frame way.ToTill (answerOf seq code content status) in
     let split : drop 4 whole ≡ content ++ tail = one-tail content (0x04 ∷ status) (0x05 ∷ []) check in
     let long : length (drop 4 whole) ≡ length content + 13 = ap length split ∙ length-append content tail ∙ omega (arith, six, length-append (0x04 ∷ status) ((0x05 ∷ []) ++ (check ++ (0x03 ∷ [])))) in
     let size : length content ≡ length whole - 17 = omega (arith, long) in
     ap (take (length whole - 17)) split ∙ take-at content tail (length whole - 17) size
 
 -- a deed's answer, read back as the entry it makes
-told-as-done : (b : Books) (seq code : ℕ) (c : Command) (d : Deed) → _≡_ {A = Entry} (record { command = c; number = d .number; shown = dataIn (frame kind.Answer (answerTo b seq code d)) }) (entryOf b c d)
+told-as-done : (b : Books) (seq code : ℕ) (c : Command) (d : Deed) → _≡_ {A = Entry} (record { command = c; number = d .number; shown = dataIn (frame way.ToTill (answerTo b seq code d)) }) (entryOf b c d)
 told-as-done b seq code c d =
     ap (λ (z : List ℕ). record { command = c; number = d .number; shown = z }) (data-read seq code (contentOf (d .shown) (b .day) (d .books)) (statusOf (d .number) (d .books)) refl)
 
 -- the three ways of a turn: nothing carried out, a repeat, and a frame read in some way and carried out
 module _ (s : State Store) (next : Place) (m : Message) where
   abbrev answerAs : Parsed → List ℕ
-  answerAs x = frame kind.Answer (answerTo (s .store .books) (m .seq) (m .code) (deedFor (s .store .books) x))
+  answerAs x = frame way.ToTill (answerTo (s .store .books) (m .seq) (m .code) (deedFor (s .store .books) x))
 
   abbrev orderAs : Parsed → Turn Store
   orderAs x =
@@ -96,18 +96,18 @@ every-turn P s quiet carries a = go (enough (a .lent))
     event next (heard m) = whole next m (repeats (s .before) m)
 
     go : (long : Bool) → P (cond long (turn carry s (a .byte)) (short7 s))
-    go true = event (read kind.Command (s .place) (a .byte) .place) (read kind.Command (s .place) (a .byte) .event)
+    go true = event (read way.ToDevice (s .place) (a .byte) .place) (read way.ToDevice (s .place) (a .byte) .event)
     go false = quiet (short7 s) refl refl
 
 -- books that can be reached, and entries in agreement with them, stay so
-module _ (es : List Entry) (s : State Store) (r : Reached (s .store .books)) (h : Agrees es (s .store .books)) where
+module _ (es : List Entry) (s : State Store) (r : Reached (s .store .books)) (h : Agrees es (s .store)) where
   abbrev Stays : Turn Store → Type 0
-  Stays t = Reached (t .state .store .books) × Agrees (withTurn t (t .carried) es) (t .state .store .books)
+  Stays t = Reached (t .state .store .books) × Agrees (withTurn t (t .carried) es) (t .state .store)
 
-  read-agrees : (next : Place) (m : Message) (x : Parsed) → Right x → Agrees (withRead (orderAs s next m x) x es) (deedFor (s .store .books) x .books)
+  read-agrees : (next : Place) (m : Message) (x : Parsed) → Right x → Agrees (withRead (orderAs s next m x) x es) (record { books = deedFor (s .store .books) x .books })
   read-agrees next m (Read c) (is-read k) =
-      subst (λ e. Agrees (e ∷ es) (carriedOut (s .store .books) c .books)) (sym (told-as-done (s .store .books) (m .seq) (m .code) c (carriedOut (s .store .books) c)))
-      (agreement-stays es (s .store .books) c r k h)
+      subst (λ e. Agrees (e ∷ es) (record { books = carriedOut (s .store .books) c .books })) (sym (told-as-done (s .store .books) (m .seq) (m .code) c (carriedOut (s .store .books) c)))
+      (agreement-stays es (s .store) c r k h)
   read-agrees next m Syntax syntax = h
   read-agrees next m Unknown no-kind = h
 
@@ -119,10 +119,10 @@ module _ (es : List Entry) (s : State Store) (r : Reached (s .store .books)) (h 
       (deed-stays (s .store .books) x r, read-agrees next m x (parsed-right (m .code) (m .content))))
     where
       quiet : (t : Turn Store) → t .carried ≡ [] → t .state .store ≡ s .store → Stays t
-      quiet t none same = (subst (λ (z : Store). Reached (z .books)) (sym same) r, subst (λ ms. Agrees (withTurn t ms es) (t .state .store .books)) (sym none) (subst (λ (z : Store). Agrees es (z .books)) (sym same) h))
+      quiet t none same = (subst (λ (z : Store). Reached (z .books)) (sym same) r, subst (λ ms. Agrees (withTurn t ms es) (t .state .store)) (sym none) (subst (Agrees es) (sym same) h))
 
-history-stays : (es : List Entry) (s : State Store) (arrived : List LentByte) → Reached (s .store .books) → Agrees es (s .store .books)
-    → Reached (deviceAfter s arrived .store .books) × Agrees (toldBy es (turnsOf s arrived)) (deviceAfter s arrived .store .books)
+history-stays : (es : List Entry) (s : State Store) (arrived : List LentByte) → Reached (s .store .books) → Agrees es (s .store)
+    → Reached (deviceAfter s arrived .store .books) × Agrees (toldBy es (turnsOf s arrived)) (deviceAfter s arrived .store)
 history-stays es s [] r h = (r, h)
 history-stays es s (a ∷ more) r h =
     let now = turn-stays es s r h a in
@@ -131,7 +131,7 @@ history-stays es s (a ∷ more) r h =
 pub any-history-reached : (arrived : List LentByte) → Reached (booksAfter arrived)
 any-history-reached arrived = history-stays [] freshDevice arrived fresh-reached fresh-agrees .0
 
-pub any-history-agrees : (arrived : List LentByte) → Agrees (entriesOf arrived) (booksAfter arrived)
+pub any-history-agrees : (arrived : List LentByte) → Agrees (entriesOf arrived) (storeAfter arrived)
 any-history-agrees arrived = history-stays [] freshDevice arrived fresh-reached fresh-agrees .1
 
 -- one byte more

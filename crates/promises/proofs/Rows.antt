@@ -7,7 +7,7 @@ use lib.Dec.{eqb}
 use lib.ListN.{replicate}
 use Rattle.text.specs.Digits.{digits, number}
 use Rattle.wire.specs.Frame.{commandOf, frame}
-use Rattle.wire.specs.declared.Kind.the-variants.{Command}
+use Rattle.wire.specs.declared.Way.the-variants.{ToDevice}
 use Rattle.till.specs.Turns.{Happening, command, byte, timeout}
 use Rattle.till.specs.declared.Word.{Word}
 use Rattle.till.specs.declared.Word.the-variants.{Idle, Waiting, SendAgain, Answered, Unfinished, TooShort, NotSent}
@@ -20,7 +20,7 @@ heard [] = []
 heard (b ∷ bs) = atDevice (record { buffer = replicate 217 0 }) b ∷ heard bs
 
 abbrev asks : (seq code : ℕ) → List ℕ → List Comes
-asks seq code content = heard (frame Command (commandOf seq code content))
+asks seq code content = heard (frame ToDevice (commandOf seq code content))
 
 abbrev told : Happening → Comes
 told h = atTill (replicate 210 0) h

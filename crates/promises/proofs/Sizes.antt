@@ -9,7 +9,7 @@ use lib.ListN.{length, getD, take, drop, length-append, length-take}
 use borrow.Author.Tests.{ltb-false}
 use Rattle.wire.specs.Frame.{commandOf, answerOf, frame, counted, bcc, total, inner, sendable}
 use Rattle.wire.specs.Places.{dataCount}
-use Rattle.wire.specs.declared.Kind.the-variants.{Command, Answer}
+use Rattle.wire.specs.declared.Way.the-variants.{ToDevice, ToTill}
 use Rattle.reader.specs.Reading.{Place, outside, inside, Event, nothing, brokenFrame, heard, suits, atLast, Standing, broken, beginning, whole, goesOn, grown, message, startsAnew, readOther, read}
 use Rattle.reader.proofs.Holding.{Underway, underway-read}
 use Rattle.reader.proofs.RoundTrip.{frame-size}
@@ -25,16 +25,16 @@ Brief nothing = Unit {0}
 Brief brokenFrame = Unit {0}
 Brief (heard m) = length (m .content ++ m .status) ≤ 206
 
-brief-message : (sum : ℕ) (bytes : List ℕ) → Underway Answer (inside sum bytes) → length (message Answer bytes .content ++ message Answer bytes .status) ≤ 206
+brief-message : (sum : ℕ) (bytes : List ℕ) → Underway ToTill (inside sum bytes) → length (message ToTill bytes .content ++ message ToTill bytes .status) ≤ 206
 brief-message sum bytes h =
-    let n : ℕ = dataCount Answer (getD bytes 0 0) in
+    let n : ℕ = dataCount ToTill (getD bytes 0 0) in
     omega (arith, length-append (take n (drop 3 bytes)) (take 6 (drop (4 + n) bytes)), length-take n (drop 3 bytes), length-take 6 (drop (4 + n) bytes), announced bytes h)
   where
-    announced : (bytes : List ℕ) → Underway Answer (inside sum bytes) → dataCount Answer (getD bytes 0 0) ≤ 200
+    announced : (bytes : List ℕ) → Underway ToTill (inside sum bytes) → dataCount ToTill (getD bytes 0 0) ≤ 200
     announced [] h = omega arith
     announced (len ∷ rest) h = omega (arith, h .0)
 
-brief-read : (p : Place) (b : ℕ) → Underway Answer p → Brief (read Answer p b .event)
+brief-read : (p : Place) (b : ℕ) → Underway ToTill p → Brief (read ToTill p b .event)
 brief-read p b h = go (eqb b 0x01)
   where
     anew : (q : Place) → Brief (startsAnew q)
@@ -42,23 +42,23 @@ brief-read p b h = go (eqb b 0x01)
     anew (inside sum []) = tt
     anew (inside sum (x ∷ xs)) = tt
 
-    by : (sum : ℕ) (bytes : List ℕ) → Underway Answer (inside sum bytes) → (st : Standing) (next : Place) → Brief (goesOn st next (message Answer bytes) .event)
+    by : (sum : ℕ) (bytes : List ℕ) → Underway ToTill (inside sum bytes) → (st : Standing) (next : Place) → Brief (goesOn st next (message ToTill bytes) .event)
     by sum bytes s broken next = tt
     by sum bytes s beginning next = tt
     by sum bytes s whole next = brief-message sum bytes s
 
-    other : (q : Place) → Underway Answer q → Brief (readOther Answer q b .event)
+    other : (q : Place) → Underway ToTill q → Brief (readOther ToTill q b .event)
     other outside s = tt
-    other (inside sum bytes) s = by sum bytes s (cond (suits Answer sum bytes b) (cond (atLast Answer bytes) whole beginning) broken) (inside (grown Answer sum bytes b) (bytes ++ b ∷ []))
+    other (inside sum bytes) s = by sum bytes s (cond (suits ToTill sum bytes b) (cond (atLast ToTill bytes) whole beginning) broken) (inside (grown ToTill sum bytes b) (bytes ++ b ∷ []))
 
-    go : (start : Bool) → Brief (cond start (record { place = inside 0 []; event = startsAnew p }) (readOther Answer p b) .event)
+    go : (start : Bool) → Brief (cond start (record { place = inside 0 []; event = startsAnew p }) (readOther ToTill p b) .event)
     go true = anew p
     go false = other p h
 
 -- what waits at the till end: a frame of 210 bytes at most, and its answer in reading
 abbrev pub Sized : till.Pending → Type 0
 Sized till.idle = Unit {0}
-Sized (till.waits seq code bytes tries ear) = (length bytes ≤ 210) × Underway Answer (ear .place)
+Sized (till.waits seq code bytes tries ear) = (length bytes ≤ 210) × Underway ToTill (ear .place)
 
 -- and what an event leaves waiting, and puts in the lent buffer
 pub record Fitting-turn (t : till.Turn) : Type 0 where
@@ -76,18 +76,18 @@ meaning : (next seq code : ℕ) (bytes : List ℕ) (tries : ℕ) (ear : till.Ear
     → till.byteMeans seq code ear b ≡ x → Fitting-turn (till.onMeaning next seq code bytes tries x)
 meaning next seq code bytes tries ear b h till.failed e = failing next seq code bytes tries (h .0)
 meaning next seq code bytes tries ear b h (till.goesOn q) e =
-    record { leaves = (h .0, subst (λ (z : till.Ear). Underway Answer (z .place)) (sym (goes-on seq code ear b q e)) (underway-read Answer (ear .place) b (h .1))); puts = omega arith }
+    record { leaves = (h .0, subst (λ (z : till.Ear). Underway ToTill (z .place)) (sym (goes-on seq code ear b q e)) (underway-read ToTill (ear .place) b (h .1))); puts = omega arith }
 meaning next seq code bytes tries ear b h (till.answers m) e =
     let brief : length (m .content ++ m .status) ≤ 206 = subst Brief (answers-heard seq code ear b m e .hears) (brief-read (ear .place) b (h .1)) in
     record { leaves = tt; puts = omega (arith, brief) }
 
 taken : (next : ℕ) (p : till.Pending) → Sized p → (h : till.Happening) → Fitting-turn (till.takes (record { next = next; pending = p }) h)
-taken next till.idle s (till.command code content) = go (sendable Command (commandOf next code content)) refl
+taken next till.idle s (till.command code content) = go (sendable ToDevice (commandOf next code content)) refl
   where
-    go : (can : Bool) → sendable Command (commandOf next code content) ≡ can
+    go : (can : Bool) → sendable ToDevice (commandOf next code content) ≡ can
         → Fitting-turn (cond can (till.sent next (commandOf next code content)) (till.stays NotSent (record { next = next; pending = till.idle })))
     go true e =
-        let few : length (frame Command (commandOf next code content)) ≤ 210 = frame-size Command (commandOf next code content) e .1 in
+        let few : length (frame ToDevice (commandOf next code content)) ≤ 210 = frame-size ToDevice (commandOf next code content) e .1 in
         record { leaves = (few, tt); puts = few }
     go false e = record { leaves = tt; puts = omega arith }
 taken next till.idle s (till.byte b) = record { leaves = tt; puts = omega arith }
@@ -111,8 +111,8 @@ turn-fits s z buffer h = go (ltb (length buffer) 210) refl
         record { leaves = t .leaves; puts = omega (arith, t .puts, ltb-false (length buffer) 210 e) }
 
 -- an answer frame has 17 bytes besides its data
-pub answer-length : (seq code : ℕ) (content status : List ℕ) → length (frame Answer (answerOf seq code content status)) ≡ length content + length status + 11
+pub answer-length : (seq code : ℕ) (content status : List ℕ) → length (frame ToTill (answerOf seq code content status)) ≡ length content + length status + 11
 answer-length seq code content status =
-    let between : List ℕ = inner Answer (answerOf seq code content status) in
+    let between : List ℕ = inner ToTill (answerOf seq code content status) in
     let checked : List ℕ = bcc (total (counted seq code between)) in
     omega (arith, length-append (counted seq code between ++ checked) (0x03 ∷ []), length-append (counted seq code between) checked, length-append between (0x05 ∷ []), length-append content (0x04 ∷ status))

@@ -6,13 +6,13 @@ use Prim.Native.Nat.{ℕ}
 use lib.ListN.{replicate}
 use Rattle.text.specs.Digits.{digits, number}
 use Rattle.wire.specs.Frame.{commandOf, frame}
-use Rattle.wire.specs.declared.Kind.the-variants.{Command}
+use Rattle.wire.specs.declared.Way.the-variants.{ToDevice}
 use Rattle.history.specs.History.{linesSold, paymentTried, paidInFull, putIn}
 use Rattle.promises.specs.Demand2.{LentByte, turnsOf, dataIn, freshDevice, allGiven, deviceAfter, entriesOf, cashIn}
 
 -- a command, with a buffer of this length lent for each of its bytes
 abbrev sent : ℕ → ℕ → ℕ → List ℕ → List LentByte
-sent room seq code content = map (λ b. record { lent = record { buffer = replicate room 0 }; byte = b }) (frame Command (commandOf seq code content))
+sent room seq code content = map (λ b. record { lent = record { buffer = replicate room 0 }; byte = b }) (frame ToDevice (commandOf seq code content))
 
 -- 49 `Tab B12.67`
 abbrev sale : ℕ → List LentByte

@@ -8,7 +8,7 @@ use lib.Dec.{ltb}
 use lib.ListN.{length}
 use borrow.Author.Tests.{ltb-true, ltb-false, lt-ltb, le-ltb}
 use Rattle.wire.specs.Frame.{Message, commandOf, frame, sendable}
-use Rattle.wire.specs.declared.Kind.the-variants.{Command}
+use Rattle.wire.specs.declared.Way.the-variants.{ToDevice}
 use Rattle.till.specs.Turns as till
 use Rattle.till.specs.declared.Word.the-variants.{Idle, Waiting, TooShort, NotSent}
 use Rattle.till.proofs.Turning.{failsBy}
@@ -47,15 +47,15 @@ module _ (buffer : List ℕ) (room : 210 ≤ length buffer) where
     on-byte b (till.answers m) e = row-0-answered b seq code bytes tries ear m room refl e
 
   -- a command where none waits
-  sending : (next code : ℕ) (content : List ℕ) (can : Bool) → sendable Command (commandOf next code content) ≡ can
+  sending : (next code : ℕ) (content : List ℕ) (can : Bool) → sendable ToDevice (commandOf next code content) ≡ can
       → ByTill (record { next = next; pending = till.idle }) buffer (till.command code content)
       (ofTill buffer (cond can (till.sent next (commandOf next code content)) (till.stays NotSent (record { next = next; pending = till.idle }))))
-  sending next code content true e = row-0-sent code content (frame Command (commandOf next code content)) room (ap not e) refl
+  sending next code content true e = row-0-sent code content (frame ToDevice (commandOf next code content)) room (ap not e) refl
   sending next code content false e = row-8 code content room (ap not e)
 
   pub taking : (next : ℕ) (p : till.Pending) → triesOf p ≤ 5 → (h : till.Happening)
       → ByTill (record { next = next; pending = p }) buffer h (ofTill buffer (till.takes (record { next = next; pending = p }) h))
-  taking next till.idle few (till.command code content) = sending next code content (sendable Command (commandOf next code content)) refl
+  taking next till.idle few (till.command code content) = sending next code content (sendable ToDevice (commandOf next code content)) refl
   taking next till.idle few (till.byte b) = row-0-idle room refl refl
   taking next till.idle few till.timeout = row-0-idle room refl refl
   taking next (till.waits seq code bytes tries ear) few (till.command other content) = row-8 other content room refl
@@ -112,9 +112,9 @@ module _ (s : till.State) (buffer : List ℕ) where
       free false true e = refl
       free false false e = absurd (false≢true (sym e))
 
-      go : (p : till.Pending) (unfit : Bool) → isWaiting p || not (sendable Command m) ≡ unfit
+      go : (p : till.Pending) (unfit : Bool) → isWaiting p || not (sendable ToDevice m) ≡ unfit
           → ofTill buffer (till.onCommand s p code content) ≡ ofTill buffer (cond unfit (till.stays NotSent s) (till.sent (s .next) m))
-      go till.idle unfit e = free (sendable Command m) unfit e
+      go till.idle unfit e = free (sendable ToDevice m) unfit e
       go (till.waits seq other bytes tries ear) true e = refl
       go (till.waits seq other bytes tries ear) false e = absurd (false≢true (sym e))
 

@@ -16,9 +16,9 @@ use Rattle.figures.specs.declared.Number.the-variants.{Is, NotOne}
 use Rattle.figures.specs.declared.Signed.{Signed}
 use Rattle.figures.specs.declared.Signed.the-variants.{By, Neither}
 use Rattle.figures.proofs.Bounds.{price-small, quantity-some, quantity-small, percent-small, signed-price-small}
-use Rattle.lines.specs.Texts.{restOf}
-use Rattle.lines.specs.declared.Found.{Found}
-use Rattle.lines.specs.declared.Found.the-variants.{At, NotThere}
+use Rattle.labels.specs.Texts.{restOf}
+use Rattle.labels.specs.declared.Found.{Found}
+use Rattle.labels.specs.declared.Found.the-variants.{At, NotThere}
 use Rattle.kinds.specs.Fields.{comma, endsOr}
 use Rattle.kinds.specs.Plain.{openOf, sumsOf, closingOf}
 use Rattle.kinds.specs.declared.Adjust.{Adjust}

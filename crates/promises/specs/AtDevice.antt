@@ -6,7 +6,7 @@ use mathlib.Core.List.{List, [], _∷_}
 use lib.ListN.{length}
 use lib.Seq.{sets}
 use Rattle.wire.specs.Frame.{Message, answerOf, frame}
-use Rattle.wire.specs.declared.Kind.the-variants.{Command, Answer}
+use Rattle.wire.specs.declared.Way.the-variants.{ToDevice, ToTill}
 use Rattle.reader.specs.Reading.{nothing, brokenFrame, heard, Read, read}
 use Rattle.books.specs.declared.Books.{Books}
 use Rattle.answers.specs.Contents.{contentOf}
@@ -35,7 +35,7 @@ tells number bytes lent after =
 
 -- PROTOCOL 1.7: what the byte is to the frame that is being read, and where reading stands behind it
 abbrev pub reads : State Store → ℕ → Read
-reads s byte = read Command (s .place) byte
+reads s byte = read ToDevice (s .place) byte
 
 -- PROTOCOL 2.1: all but where reading stands is as it was
 abbrev pub moved : State Store → ℕ → State Store
@@ -60,7 +60,7 @@ pub record NewCommand (s : State Store) (lent : Lent) (byte : ℕ) (m : Message)
 -- status byte counts 2 to the power of k, and bit 7 is 1 in all of them (3.1): bit 0.0 is 01h, 0.1 02h, 0.5 20h; 1.0 01h, 1.1 02h.
 abbrev pub answerWith : Message → List ℕ → (first second : ℕ) → Books → List ℕ
 answerWith m content first second b =
-    frame Answer
+    frame ToTill
     (answerOf (m .seq) (m .code) content (first ∷ second ∷ receipts (b .opened) ∷ 0x80 ∷ memories b ∷ 0x9A ∷ []))
 
 -- PROTOCOL 5.1: of a command done: what it shows, after its effect

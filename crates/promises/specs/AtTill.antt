@@ -7,7 +7,7 @@ use mathlib.Core.List.{List, [], _++_}
 use lib.ListN.{length}
 use lib.Seq.{sets}
 use Rattle.wire.specs.Frame.{Message, commandOf, frame, sendable}
-use Rattle.wire.specs.declared.Kind.the-variants.{Command}
+use Rattle.wire.specs.declared.Way.the-variants.{ToDevice}
 use Rattle.till.specs.Turns as till
 use Rattle.till.specs.declared.Word.{Word}
 use Rattle.till.specs.declared.Word.the-variants.{Idle, Waiting, SendAgain, Answered, Unfinished, TooShort, NotSent}
@@ -50,7 +50,7 @@ isWaiting (till.waits seq code bytes tries ear) = true
 
 -- PROTOCOL 7.2: another command waits, CMD is below 20h, there are more than 200 data bytes, or one that may not stand there
 abbrev pub unsendable : till.State → ℕ → List ℕ → Bool
-unsendable s code content = isWaiting (s .pending) || not (sendable Command (commandOf (s .next) code content))
+unsendable s code content = isWaiting (s .pending) || not (sendable ToDevice (commandOf (s .next) code content))
 
 -- PROTOCOL 7.7: no command waits any more; the SEQ of the next command stays
 abbrev pub noneWaits : till.State → till.State
@@ -66,7 +66,7 @@ pub data ByTill (s : till.State) (buffer : List ℕ) : till.Happening → FromTi
   row-0-idle : {h : till.Happening} → 210 ≤ length buffer → s .pending ≡ till.idle → fromLine h ≡ true → ByTill s buffer h (replies 0 Idle 0 [] buffer s)
   -- 0, Waiting: a command is taken, and its frame given back (7.2); it has the next SEQ, which goes up by one (7.3)
   row-0-sent : (code : ℕ) (content : List ℕ) (bytes : List ℕ) → 210 ≤ length buffer → unsendable s code content ≡ false
-      → bytes ≡ frame Command (commandOf (s .next) code content)
+      → bytes ≡ frame ToDevice (commandOf (s .next) code content)
       → ByTill s buffer (till.command code content)
       (replies 0 (Waiting (length bytes)) (length bytes) bytes buffer (record { next = till.seqAfter (s .next); pending = till.waits (s .next) code bytes 1 till.freshEar }))
   -- 0, Waiting: a byte with which reading goes on (7.5)

@@ -65,15 +65,18 @@ abbrev pub toldBy : List Entry → List (Turn Store) → List Entry
 toldBy es [] = es
 toldBy es (t ∷ ts) = toldBy (withTurn t (t .carried) es) ts
 
--- of a fresh device: its entries, and the books it is left with
+-- of a fresh device: its entries, and what it is left with
 abbrev pub freshDevice : State Store
 freshDevice = switchedOn freshStore
 
 abbrev pub entriesOf : List LentByte → List Entry
 entriesOf arrived = toldBy [] (turnsOf freshDevice arrived)
 
+abbrev pub storeAfter : List LentByte → Store
+storeAfter arrived = deviceAfter freshDevice arrived .store
+
 abbrev pub booksAfter : List LentByte → Books
-booksAfter arrived = deviceAfter freshDevice arrived .store .books
+booksAfter arrived = storeAfter arrived .books
 
 -- PROTOCOL 5.14: cash in an answer to 70, the 12 digits behind `P,`, read back as a number
 abbrev pub cashIn : List ℕ → ℕ

@@ -13,9 +13,9 @@ use borrow.Author.Tests.{eqb-true, leb-true, lt-ltb, le-ltb}
 use Rattle.wire.specs.Bytes.{within, mayStand, every}
 use Rattle.wire.specs.Frame.{Message, bcc, inner, frame, sendable}
 use Rattle.wire.specs.Places.{is, none, behindData, shortest, longest, front, ending, dataCount}
-use Rattle.wire.specs.declared.Kind.{Kind}
-use Rattle.wire.specs.declared.Kind.the-variants.{Command, Answer}
-use Rattle.wire.specs.declared.Sort.the-variants.{Mark, Data, Status}
+use Rattle.wire.specs.declared.Way.{Way}
+use Rattle.wire.specs.declared.Way.the-variants.{ToDevice, ToTill}
+use Rattle.wire.specs.declared.Role.the-variants.{Name, Data, Status}
 use Rattle.text.proofs.Laws.{empty}
 use Rattle.wire.proofs.Suits.{both, length-front}
 use Rattle.reader.specs.Reading.{message, suits, atLast, grown}
@@ -59,16 +59,16 @@ pass-run zero t (x ∷ xs) p = absurd (omega (arith, pass-short p))
 pass-run (suc n) t (x ∷ xs) (more h p) = rw h (pass-run n t xs p)
 
 -- the message that a whole list of bytes from SEQ to 05h says
-pub record Said (k : Kind) (n : ℕ) (a : List ℕ) : Type 0 where
+pub record Said (k : Way) (n : ℕ) (a : List ℕ) : Type 0 where
   pub message : Message
   pub size : length (message .content) ≡ n
   pub parts : n ≤ 200 → Parts k message
   pub is : a ≡ message .seq ∷ message .code ∷ inner k message ++ 0x05 ∷ []
 
 -- between CMD and 05h, by the kind
-between : (k : Kind) (x y n : ℕ) (r : List ℕ) → mayStand Mark x ≡ true → mayStand Mark y ≡ true
+between : (k : Way) (x y n : ℕ) (r : List ℕ) → mayStand Name x ≡ true → mayStand Name y ≡ true
     → Split (replicate n (mayStand Data)) (behindData k) r → length r ≡ n + length (behindData k) → Said k n (x ∷ y ∷ r ++ 0x05 ∷ [])
-between Command x y n r hx hy s l =
+between ToDevice x y n r hx hy s l =
     let none-left : s .right ≡ [] = empty (s .right) (omega (arith, ap length (s .is), length-append (s .left) (s .right), s .size, length-replicate n (mayStand Data))) in
     record {
       message = record { seq = x; code = y; content = s .left; status = [] };
@@ -83,9 +83,9 @@ between Command x y n r hx hy s l =
       };
       is = ap (λ z. x ∷ y ∷ z ++ 0x05 ∷ []) (s .is ∙ ap (λ z. s .left ++ z) none-left ∙ append-nil (s .left));
     }
-between Answer x y n r hx hy s l = go (s .right) (s .second) refl (omega (arith, ap length (s .is), length-append (s .left) (s .right), s .size, length-replicate n (mayStand Data)))
+between ToTill x y n r hx hy s l = go (s .right) (s .second) refl (omega (arith, ap length (s .is), length-append (s .left) (s .right), s .size, length-replicate n (mayStand Data)))
   where
-    go : (rs : List ℕ) → Pass (behindData Answer) rs → s .right ≡ rs → length rs ≡ 7 → Said Answer n (x ∷ y ∷ r ++ 0x05 ∷ [])
+    go : (rs : List ℕ) → Pass (behindData ToTill) rs → s .right ≡ rs → length rs ≡ 7 → Said ToTill n (x ∷ y ∷ r ++ 0x05 ∷ [])
     go [] p e z = absurd (omega arith)
     go (q ∷ qs) (more h p) e z =
         let four : q ≡ 0x04 = eqb-true q 0x04 h in
@@ -104,12 +104,12 @@ between Answer x y n r hx hy s l = go (s .right) (s .second) refl (omega (arith,
         }
 
 -- SEQ to 05h
-said : (k : Kind) (n : ℕ) (a : List ℕ) → Pass (front k n) a → length a ≡ length (front k n) → Said k n a
+said : (k : Way) (n : ℕ) (a : List ℕ) → Pass (front k n) a → length a ≡ length (front k n) → Said k n a
 said k n [] p l = absurd (omega arith)
 said k n (x ∷ []) p l = absurd (omega (arith, length-front k n))
 said k n (x ∷ y ∷ r) (more hx (more hy p)) l = said-rest k x y n r hx hy p (omega arith)
   where
-    said-rest : (k : Kind) (x y n : ℕ) (r : List ℕ) → mayStand Mark x ≡ true → mayStand Mark y ≡ true
+    said-rest : (k : Way) (x y n : ℕ) (r : List ℕ) → mayStand Name x ≡ true → mayStand Name y ≡ true
         → Pass (replicate n (mayStand Data) ++ behindData k ++ is 0x05 ∷ []) r → length r ≡ length (replicate n (mayStand Data) ++ behindData k ++ is 0x05 ∷ [])
         → Said k n (x ∷ y ∷ r)
     said-rest k x y n r hx hy p l =
@@ -124,7 +124,7 @@ said k n (x ∷ y ∷ r) (more hx (more hy p)) l = said-rest k x y n r hx hy p (
         subst (λ z. Said k n (x ∷ y ∷ z)) (sym (outer .is ∙ ap (λ z. outer .left ++ z) five)) (between k x y n (outer .left) hx hy within (outer .size ∙ size))
 
 -- what is known of the bytes since 01h, once LEN is among them: those up to 05h, and those behind it
-pub record Grown (k : Kind) (sum : ℕ) (bytes : List ℕ) : Type 0 where
+pub record Grown (k : Way) (sum : ℕ) (bytes : List ℕ) : Type 0 where
   pub size : ℕ
   pub front-bytes : List ℕ
   pub ending-bytes : List ℕ
@@ -136,7 +136,7 @@ pub record Grown (k : Kind) (sum : ℕ) (bytes : List ℕ) : Type 0 where
   pub in-order : length front-bytes < length (front k (dataCount k size)) → ending-bytes ≡ []
 
 -- one byte more, up to 05h or behind it
-module _ (k : Kind) (sum size : ℕ) (a : List ℕ) (range : within (shortest k) (longest k) size ≡ true) (pa : Pass (front k (dataCount k size)) a) (es : sum ≡ sumOn size a) where
+module _ (k : Way) (sum size : ℕ) (a : List ℕ) (range : within (shortest k) (longest k) size ≡ true) (pa : Pass (front k (dataCount k size)) a) (es : sum ≡ sumOn size a) where
   abbrev tests : List (ℕ → Bool)
   tests = front k (dataCount k size)
 
@@ -173,7 +173,7 @@ module _ (k : Kind) (sum size : ℕ) (a : List ℕ) (range : within (shortest k)
       })
 
 -- bytes up to 05h alone, or all of them and some behind
-pub cases : (k : Kind) (sum : ℕ) (bytes : List ℕ) (g : Grown k sum bytes)
+pub cases : (k : Way) (sum : ℕ) (bytes : List ℕ) (g : Grown k sum bytes)
     → ((bytes ≡ g .size ∷ g .front-bytes) × (length (g .front-bytes) < length (front k (dataCount k (g .size)))))
     ⊎ (length (g .front-bytes) ≡ length (front k (dataCount k (g .size))))
 cases k sum bytes g = go (decLt (length (g .front-bytes)) (length (front k (dataCount k (g .size)))))
@@ -184,7 +184,7 @@ cases k sum bytes g = go (decLt (length (g .front-bytes)) (length (front k (data
     go (yes early) = inl (g .is ∙ ap (λ z. g .size ∷ (g .front-bytes ++ z)) (g .in-order early) ∙ ap (λ z. g .size ∷ z) (append-nil (g .front-bytes)), early)
     go (no late) = inr (omega (arith, pass-short (g .front-pass)))
 
-pub grow : (k : Kind) (sum : ℕ) (bytes : List ℕ) (b : ℕ) → Grown k sum bytes → suits k sum bytes b ≡ true → Grown k (grown k sum bytes b) (bytes ++ b ∷ [])
+pub grow : (k : Way) (sum : ℕ) (bytes : List ℕ) (b : ℕ) → Grown k sum bytes → suits k sum bytes b ≡ true → Grown k (grown k sum bytes b) (bytes ++ b ∷ [])
 grow k sum bytes b g e =
     ⊎-elim
     (λ c. subst (λ z. suits k sum z b ≡ true → Grown k (grown k sum z b) (z ++ b ∷ [])) (sym (c .0))
@@ -194,7 +194,7 @@ grow k sum bytes b g e =
     (cases k sum bytes g)
 
 -- a whole one
-module _ (k : Kind) (sum size : ℕ) (a q : List ℕ) (b : ℕ) (range : within (shortest k) (longest k) size ≡ true) (pa : Pass (front k (dataCount k size)) a)
+module _ (k : Way) (sum size : ℕ) (a q : List ℕ) (b : ℕ) (range : within (shortest k) (longest k) size ≡ true) (pa : Pass (front k (dataCount k size)) a)
     (full : length a ≡ length (front k (dataCount k size))) (pq : Pass (ending sum) q) (es : sum ≡ sumOn size a)
     (e : suits k sum (size ∷ (a ++ q)) b ≡ true) (last : atLast k (size ∷ (a ++ q)) ≡ true) where
   four : length q ≡ 4

@@ -9,19 +9,19 @@ use lib.ListN.{length}
 use borrow.Author.Tests.{eqb-true}
 use Rattle.wire.specs.Frame.{Message, frame, sendable}
 use Rattle.wire.specs.Places.{front, dataCount}
-use Rattle.wire.specs.declared.Kind.{Kind}
+use Rattle.wire.specs.declared.Way.{Way}
 use Rattle.reader.specs.Reading.{Place, outside, inside, heard, Read, read, startsAnew, message, suits, atLast, grown, run}
 use Rattle.reader.proofs.Steps.{Ways, starts-anew, is-skipped, breaks, goes-on, ends, ways}
 use Rattle.reader.proofs.Passing.{done}
 use Rattle.reader.proofs.BuiltOnly.{Grown, grow, cases, whole-ending}
 
 -- a place as it is known behind a history: the bytes since the last 01h, each in its place
-abbrev pub Known : Kind → List ℕ → Place → Type 0
+abbrev pub Known : Way → List ℕ → Place → Type 0
 Known k hist outside = Unit {0}
 Known k hist (inside sum bytes) = ((before : List ℕ) × (hist ≡ before ++ 0x01 ∷ bytes)) × ((bytes ≡ []) ⊎ Grown k sum bytes)
 
 -- LEN, or one byte more
-begins : (k : Kind) (sum : ℕ) (bytes : List ℕ) (b : ℕ) → (bytes ≡ []) ⊎ Grown k sum bytes → suits k sum bytes b ≡ true → Grown k (grown k sum bytes b) (bytes ++ b ∷ [])
+begins : (k : Way) (sum : ℕ) (bytes : List ℕ) (b : ℕ) → (bytes ≡ []) ⊎ Grown k sum bytes → suits k sum bytes b ≡ true → Grown k (grown k sum bytes b) (bytes ++ b ∷ [])
 begins k sum bytes b g e =
     ⊎-elim
     (λ none. subst (λ z. suits k sum z b ≡ true → Grown k (grown k sum z b) (z ++ b ∷ [])) (sym none)
@@ -29,7 +29,7 @@ begins k sum bytes b g e =
     (λ some. grow k sum bytes b some e)
     g
 
-known-step : (k : Kind) (hist : List ℕ) (p : Place) (b : ℕ) → Known k hist p → Known k (hist ++ b ∷ []) (read k p b .place)
+known-step : (k : Way) (hist : List ℕ) (p : Place) (b : ℕ) → Known k hist p → Known k (hist ++ b ∷ []) (read k p b .place)
 known-step k hist p b h = go (ways k p b)
   where
     Next : Read → Type 0
@@ -44,7 +44,7 @@ known-step k hist p b h = go (ways k p b)
         subst Next (sym e) ((here .0 .0, ap (λ z. z ++ b ∷ []) (here .0 .1) ∙ append-assoc (here .0 .0) (0x01 ∷ bytes) (b ∷ [])), inr (begins k sum bytes b (here .1) fits))
     go (ends sum bytes is fits last e) = subst Next (sym e) tt
 
-pub known-run : (k : Kind) (bs hist : List ℕ) (p : Place) → Known k hist p → Known k (hist ++ bs) (run k p bs .place)
+pub known-run : (k : Way) (bs hist : List ℕ) (p : Place) → Known k hist p → Known k (hist ++ bs) (run k p bs .place)
 known-run k [] hist p h = rw append-nil h
 known-run k (b ∷ bs) hist p h =
     subst (λ z. Known k z (run k (read k p b .place) bs .place)) (append-assoc hist (b ∷ []) bs)
@@ -57,13 +57,13 @@ no-start (inside sum []) m e = let z : _≡_ {A = ℕ} 0 1 = cc in omega arith
 no-start (inside sum (b ∷ bytes)) m e = let z : _≡_ {A = ℕ} 0 1 = cc in omega arith
 
 -- a whole frame stands at the end of the history
-abbrev Ends : Kind → List ℕ → Message → Type 0
+abbrev Ends : Way → List ℕ → Message → Type 0
 Ends k bs m = (sendable k m ≡ true) × ((before : List ℕ) × (bs ≡ before ++ frame k m))
 
-abbrev Whole : Kind → ℕ → ℕ → List ℕ → Type 0
+abbrev Whole : Way → ℕ → ℕ → List ℕ → Type 0
 Whole k sum b bytes = suits k sum bytes b ≡ true → atLast k bytes ≡ true → (0x01 ∷ (bytes ++ b ∷ []) ≡ frame k (message k bytes)) × (sendable k (message k bytes) ≡ true)
 
-whole-grown : (k : Kind) (sum : ℕ) (bytes : List ℕ) (b : ℕ) → Grown k sum bytes → Whole k sum b bytes
+whole-grown : (k : Way) (sum : ℕ) (bytes : List ℕ) (b : ℕ) → Grown k sum bytes → Whole k sum b bytes
 whole-grown k sum bytes b g =
     ⊎-elim
     (λ c. subst (Whole k sum b) (sym (c .0))
@@ -72,13 +72,13 @@ whole-grown k sum bytes b g =
     (whole-ending k sum (g .size) (g .front-bytes) (g .ending-bytes) b (g .range) (g .front-pass) full (g .ending-pass) (g .summed)))
     (cases k sum bytes g)
 
-whole-known : (k : Kind) (hist : List ℕ) (sum : ℕ) (bytes : List ℕ) (b : ℕ) → Known k hist (inside sum bytes)
+whole-known : (k : Way) (hist : List ℕ) (sum : ℕ) (bytes : List ℕ) (b : ℕ) → Known k hist (inside sum bytes)
     → suits k sum bytes b ≡ true → atLast k bytes ≡ true → Ends k (hist ++ b ∷ []) (message k bytes)
 whole-known k hist sum bytes b h es el =
     let all = ⊎-elim (λ none. subst (Whole k sum b) (sym none) (λ es el. absurd (false≢true el))) (whole-grown k sum bytes b) (h .1) es el in
     (all .1, (h .0 .0, ap (λ z. z ++ b ∷ []) (h .0 .1) ∙ append-assoc (h .0 .0) (0x01 ∷ bytes) (b ∷ []) ∙ ap (λ z. h .0 .0 ++ z) (all .0)))
 
-heard-step : (k : Kind) (hist : List ℕ) (p : Place) (b : ℕ) (m : Message) → Known k hist p → read k p b .event ≡ heard m → Ends k (hist ++ b ∷ []) m
+heard-step : (k : Way) (hist : List ℕ) (p : Place) (b : ℕ) (m : Message) → Known k hist p → read k p b .event ≡ heard m → Ends k (hist ++ b ∷ []) m
 heard-step k hist p b m h er = go (ways k p b)
   where
     told : (r : Read) → read k p b ≡ r → r .event ≡ heard m
@@ -95,6 +95,6 @@ heard-step k hist p b m h er = go (ways k p b)
         subst (Ends k (hist ++ b ∷ [])) message-is (whole-known k hist sum bytes b (subst (Known k hist) is h) fits last)
 
 -- the theorem: a byte that is heard as a whole message ends the frame of that message, which could be sent
-pub built-is-all-that-is-read : (k : Kind) (bs : List ℕ) (b : ℕ) (m : Message) → read k (run k outside bs .place) b .event ≡ heard m
+pub built-is-all-that-is-read : (k : Way) (bs : List ℕ) (b : ℕ) (m : Message) → read k (run k outside bs .place) b .event ≡ heard m
     → (sendable k m ≡ true) × ((before : List ℕ) × (bs ++ b ∷ [] ≡ before ++ frame k m))
 built-is-all-that-is-read k bs b m = heard-step k bs (run k outside bs .place) b m (known-run k bs [] outside tt)

@@ -6,4 +6,3 @@ pub mod RoundTrip
 pub mod BuiltOnly
 pub mod History
 pub mod Holding
-pub mod Stretching

@@ -9,9 +9,9 @@ use borrow.Author.Tests.{ne-eqb}
 use Rattle.wire.specs.Bytes.{mayStand, every}
 use Rattle.wire.specs.Places.{is, none, behindData, front, ending}
 use Rattle.wire.specs.Frame.{hexadecimal}
-use Rattle.wire.specs.declared.Kind.{Kind}
-use Rattle.wire.specs.declared.Kind.the-variants.{Command, Answer}
-use Rattle.wire.specs.declared.Sort.the-variants.{Mark, Data, Status}
+use Rattle.wire.specs.declared.Way.{Way}
+use Rattle.wire.specs.declared.Way.the-variants.{ToDevice, ToTill}
+use Rattle.wire.specs.declared.Role.the-variants.{Name, Data, Status}
 use Rattle.wire.proofs.Suits.{both}
 
 -- the bytes pass the first tests
@@ -64,18 +64,18 @@ rejects-run : (n : ℕ) (t : ℕ → Bool) → t 0x01 ≡ false → Rejects (rep
 rejects-run zero t e = none-left
 rejects-run (suc n) t e = and e (rejects-run n t e)
 
-rejects-behind : (k : Kind) → Rejects (behindData k)
-rejects-behind Command = none-left
-rejects-behind Answer = and refl (rejects-run 6 (mayStand Status) refl)
+rejects-behind : (k : Way) → Rejects (behindData k)
+rejects-behind ToDevice = none-left
+rejects-behind ToTill = and refl (rejects-run 6 (mayStand Status) refl)
 
 rejects-hex : (n : ℕ) → is (hexadecimal n) 0x01 ≡ false
 rejects-hex n = ne-eqb 0x01 (hexadecimal n) (λ e. omega arith)
 
-rejects-frame : (k : Kind) (n sum : ℕ) → Rejects (front k n ++ ending sum)
+rejects-frame : (k : Way) (n sum : ℕ) → Rejects (front k n ++ ending sum)
 rejects-frame k n sum =
     let five = rejects-join (rejects-join (rejects-run n (mayStand Data) refl) (rejects-behind k)) (and {t = is 0x05} refl none-left) in
     let quad = and (rejects-hex (sum / 4096)) (and (rejects-hex (sum / 256)) (and (rejects-hex (sum / 16)) (and (rejects-hex sum) (and {t = is 0x03} refl none-left)))) in
-    rejects-join (and {t = mayStand Mark} refl (and {t = mayStand Mark} refl five)) quad
+    rejects-join (and {t = mayStand Name} refl (and {t = mayStand Name} refl five)) quad
 
-pub not-01 : (k : Kind) (n sum i b : ℕ) → getD (front k n ++ ending sum) i none b ≡ true → b ≡ 0x01 → ⊥
+pub not-01 : (k : Way) (n sum i b : ℕ) → getD (front k n ++ ending sum) i none b ≡ true → b ≡ 0x01 → ⊥
 not-01 k n sum i b e q = false≢true (sym (rejects-at (rejects-frame k n sum) i) ∙ rw q at e)

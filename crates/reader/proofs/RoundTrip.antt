@@ -12,9 +12,9 @@ use Rattle.wire.specs.Bytes.{mayStand, every}
 use Rattle.wire.specs.Frame.{Message, total, bcc, hexadecimal, inner, counted, frame, statuses, carriable, sendable}
 use Rattle.wire.specs.Places.{is, none, behindData, shortest, longest, front, ending, dataCount}
 use Rattle.wire.specs.Replies.{room}
-use Rattle.wire.specs.declared.Kind.{Kind}
-use Rattle.wire.specs.declared.Kind.the-variants.{Command, Answer}
-use Rattle.wire.specs.declared.Sort.the-variants.{Mark, Data, Status}
+use Rattle.wire.specs.declared.Way.{Way}
+use Rattle.wire.specs.declared.Way.the-variants.{ToDevice, ToTill}
+use Rattle.wire.specs.declared.Role.the-variants.{Name, Data, Status}
 use Rattle.text.proofs.Laws.{empty}
 use Rattle.wire.proofs.Suits.{both, length-front, behind-small}
 use Rattle.wire.proofs.Building.{bcc-mod, length-enclosed}
@@ -24,21 +24,21 @@ use Rattle.reader.proofs.Passing.{Pass, done, more, pass-join, pass-eve
 use Rattle.reader.proofs.Walking.{sumOn, sum-total, run-first, quiet, quiet-then, walk-front, walk-ending}
 
 -- what "can be sent" says, part by part
-pub record Parts (k : Kind) (m : Message) : Type 0 where
-  pub seq : mayStand Mark (m .seq) ≡ true
-  pub code : mayStand Mark (m .code) ≡ true
+pub record Parts (k : Way) (m : Message) : Type 0 where
+  pub seq : mayStand Name (m .seq) ≡ true
+  pub code : mayStand Name (m .code) ≡ true
   pub few : length (m .content) ≤ 200
   pub content : every (mayStand Data) (m .content) ≡ true
   pub size : length (m .status) ≡ statuses k
   pub status : every (mayStand Status) (m .status) ≡ true
 
-pub parts : (k : Kind) (m : Message) → sendable k m ≡ true → Parts k m
+pub parts : (k : Way) (m : Message) → sendable k m ≡ true → Parts k m
 parts k m e =
     let whole = both (carriable (m .seq) (m .code) (m .content) && eqb (length (m .status)) (statuses k)) (every (mayStand Status) (m .status)) e in
     let state = both (carriable (m .seq) (m .code) (m .content)) (eqb (length (m .status)) (statuses k)) (whole .0) in
-    let bytes = both (mayStand Mark (m .seq) && mayStand Mark (m .code) && leb (length (m .content)) 200) (every (mayStand Data) (m .content)) (state .0) in
-    let count = both (mayStand Mark (m .seq) && mayStand Mark (m .code)) (leb (length (m .content)) 200) (bytes .0) in
-    let marks = both (mayStand Mark (m .seq)) (mayStand Mark (m .code)) (count .0) in
+    let bytes = both (mayStand Name (m .seq) && mayStand Name (m .code) && leb (length (m .content)) 200) (every (mayStand Data) (m .content)) (state .0) in
+    let count = both (mayStand Name (m .seq) && mayStand Name (m .code)) (leb (length (m .content)) 200) (bytes .0) in
+    let marks = both (mayStand Name (m .seq)) (mayStand Name (m .code)) (count .0) in
     record {
       seq = marks .0;
       code = marks .1;
@@ -48,36 +48,36 @@ parts k m e =
       status = whole .1;
     }
 
-pub sendable-parts : (k : Kind) (m : Message) → Parts k m → sendable k m ≡ true
+pub sendable-parts : (k : Way) (m : Message) → Parts k m → sendable k m ≡ true
 sendable-parts k m h =
     rw (h .seq, h .code, le-leb (length (m .content)) 200 (h .few), h .content, eq-eqb (length (m .status)) (statuses k) (h .size), h .status)
 
 -- the bytes between CMD and 05h pass their tests
-pass-behind : (k : Kind) (m : Message) → Parts k m → Pass (replicate (length (m .content)) (mayStand Data) ++ behindData k) (inner k m)
-pass-behind Command m h = rw append-nil (pass-every (mayStand Data) (m .content) (h .content))
-pass-behind Answer m h =
+pass-behind : (k : Way) (m : Message) → Parts k m → Pass (replicate (length (m .content)) (mayStand Data) ++ behindData k) (inner k m)
+pass-behind ToDevice m h = rw append-nil (pass-every (mayStand Data) (m .content) (h .content))
+pass-behind ToTill m h =
     pass-join (pass-every (mayStand Data) (m .content) (h .content)) (sym (length-replicate (length (m .content)) (mayStand Data)))
     (more refl (rw (h .size) at (pass-every (mayStand Status) (m .status) (h .status))))
 
-pub length-inner : (k : Kind) (m : Message) → Parts k m → length (inner k m) ≡ length (m .content) + length (behindData k)
-length-inner Command m h = omega arith
-length-inner Answer m h = omega (arith, length-append (m .content) (0x04 ∷ m .status), h .size)
+pub length-inner : (k : Way) (m : Message) → Parts k m → length (inner k m) ≡ length (m .content) + length (behindData k)
+length-inner ToDevice m h = omega arith
+length-inner ToTill m h = omega (arith, length-append (m .content) (0x04 ∷ m .status), h .size)
 
-pass-front : (k : Kind) (m : Message) → Parts k m → Pass (front k (length (m .content))) (m .seq ∷ m .code ∷ inner k m ++ 0x05 ∷ [])
+pass-front : (k : Way) (m : Message) → Parts k m → Pass (front k (length (m .content))) (m .seq ∷ m .code ∷ inner k m ++ 0x05 ∷ [])
 pass-front k m h =
     let size : length (inner k m) ≡ length (replicate (length (m .content)) (mayStand Data) ++ behindData k) =
     length-inner k m h ∙ sym (length-append (replicate (length (m .content)) (mayStand Data)) (behindData k) ∙ ap (λ n. n + length (behindData k)) (length-replicate (length (m .content)) (mayStand Data))) in
     more (h .seq) (more (h .code) (pass-join (pass-behind k m h) size (more {t = is 0x05} refl done)))
 
 -- the bytes from LEN on say the message that they were made of, whatever stands behind them
-content-back : (k : Kind) (m : Message) (rest : List ℕ) → take (length (m .content)) ((inner k m ++ 0x05 ∷ []) ++ rest) ≡ m .content
-content-back Command m rest = rw append-assoc (take-at (m .content) (0x05 ∷ rest) (length (m .content)) refl)
-content-back Answer m rest =
+content-back : (k : Way) (m : Message) (rest : List ℕ) → take (length (m .content)) ((inner k m ++ 0x05 ∷ []) ++ rest) ≡ m .content
+content-back ToDevice m rest = rw append-assoc (take-at (m .content) (0x05 ∷ rest) (length (m .content)) refl)
+content-back ToTill m rest =
     rw (append-assoc, append-assoc) (take-at (m .content) (0x04 ∷ (m .status ++ 0x05 ∷ rest)) (length (m .content)) refl)
 
-status-back : (k : Kind) (m : Message) (rest : List ℕ) → Parts k m → take (statuses k) (drop (1 + length (m .content)) ((inner k m ++ 0x05 ∷ []) ++ rest)) ≡ m .status
-status-back Command m rest h = sym (empty (m .status) (h .size))
-status-back Answer m rest h =
+status-back : (k : Way) (m : Message) (rest : List ℕ) → Parts k m → take (statuses k) (drop (1 + length (m .content)) ((inner k m ++ 0x05 ∷ []) ++ rest)) ≡ m .status
+status-back ToDevice m rest h = sym (empty (m .status) (h .size))
+status-back ToTill m rest h =
     let regroup : (((m .content ++ 0x04 ∷ m .status) ++ 0x05 ∷ []) ++ rest) ≡ (m .content ++ 0x04 ∷ []) ++ (m .status ++ 0x05 ∷ rest) = simp append-assoc in
     let front : length (m .content ++ 0x04 ∷ []) ≡ 1 + length (m .content) = length-append (m .content) (0x04 ∷ []) ∙ omega arith in
     ap (λ z. take 6 (drop (1 + length (m .content)) z)) regroup
@@ -90,7 +90,7 @@ same n = eq-eqb n n refl
 pass-quad : (s : ℕ) → Pass (ending s) (bcc s)
 pass-quad s = more (same (hexadecimal (s / 4096))) (more (same (hexadecimal (s / 256))) (more (same (hexadecimal (s / 16))) (more (same (hexadecimal s)) done)))
 
-module _ (k : Kind) (m : Message) (h : Parts k m) where
+module _ (k : Way) (m : Message) (h : Parts k m) where
   abbrev pub len : ℕ
   len = length (inner k m) + 4 + 0x20
 
@@ -172,27 +172,27 @@ module _ (k : Kind) (m : Message) (h : Parts k m) where
       (run-first k (inside sum (len ∷ (body ++ quad))) 0x03 [] _ read-last)
 
 -- the theorem: from any place, the first byte gives what 01h gives there, the others nothing, and the last the whole message
-pub read-what-was-built : (k : Kind) (m : Message) → sendable k m ≡ true → (p : Place)
+pub read-what-was-built : (k : Way) (m : Message) → sendable k m ≡ true → (p : Place)
     → run k p (frame k m) ≡ record { place = outside; events = startsAnew p ∷ (replicate (length (inner k m) + 8) nothing ++ heard m ∷ []) }
 read-what-was-built k m e p =
     run-first k p 0x01 (counted (m .seq) (m .code) (inner k m) ++ bcc (total (counted (m .seq) (m .code) (inner k m))) ++ 0x03 ∷ []) _ (read-start k p 0x01 refl)
     ∙ ap (λ (r : Run). record { place = r .place; events = startsAnew p ∷ r .events }) (heard-behind k m (parts k m e))
 
 -- "24h to ECh for commands, 2Bh to F3h for answers"
-pub len-sizes : (shortest Command ≡ 0x24) × (longest Command ≡ 0xEC) × (shortest Answer ≡ 0x2B) × (longest Answer ≡ 0xF3)
+pub len-sizes : (shortest ToDevice ≡ 0x24) × (longest ToDevice ≡ 0xEC) × (shortest ToTill ≡ 0x2B) × (longest ToTill ≡ 0xF3)
 len-sizes = (refl, refl, refl, refl)
 
-pub len-range : (k : Kind) (m : Message) → sendable k m ≡ true → (shortest k ≤ getD (frame k m) 1 0) × (getD (frame k m) 1 0 ≤ longest k)
+pub len-range : (k : Way) (m : Message) → sendable k m ≡ true → (shortest k ≤ getD (frame k m) 1 0) × (getD (frame k m) 1 0 ≤ longest k)
 len-range k m e =
     let h = parts k m e in
     (omega (arith, length-inner k m h), omega (arith, length-inner k m h, h .few))
 
-behind-room : (k : Kind) → 210 + length (behindData k) ≡ room k
-behind-room Command = refl
-behind-room Answer = refl
+behind-room : (k : Way) → 210 + length (behindData k) ≡ room k
+behind-room ToDevice = refl
+behind-room ToTill = refl
 
 -- a frame has at least 10 bytes, and at most 210 in a command and 217 in an answer
-pub frame-size : (k : Kind) (m : Message) → sendable k m ≡ true → (10 ≤ length (frame k m)) × (length (frame k m) ≤ room k)
+pub frame-size : (k : Way) (m : Message) → sendable k m ≡ true → (10 ≤ length (frame k m)) × (length (frame k m) ≤ room k)
 frame-size k m e =
     let h = parts k m e in
     let size = length-enclosed (m .seq) (m .code) (inner k m) in

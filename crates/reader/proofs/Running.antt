@@ -11,7 +11,7 @@ use lib.Seq.{sets-eq, length-sets, take-at, drop-cons}
 use Rattle.reader.specs.Private.{brokenOf, wholeOf}
 use Rattle.reader.specs.Reading.{Place, outside, inside, Read, Event, nothing, brokenFrame, heard, read, Run, run}
 use Rattle.reader.specs.Fields.{placeOf, readerOf, keptIn, heardNumber, heardValues, heardOf, takenOf, toldOf, count, brokenIn, wholeIn}
-use Rattle.wire.specs.declared.Kind.{Kind}
+use Rattle.wire.specs.declared.Way.{Way}
 use Rattle.reader.proofs.Steps.{Ways, starts-anew, is-skipped, breaks, goes-on, ends, ways}
 use Rattle.reader.specs.declared.Heard.{Heard}
 use Rattle.reader.specs.declared.Heard.the-variants.{Nothing, Broken, Whole}
@@ -31,7 +31,7 @@ place-back array (inside sum bytes) h =
     ap (inside sum) (ap (take (length bytes)) (sets-eq bytes array 0 (omega arith)) ∙ take-at bytes (drop (0 + length bytes) array) (length bytes) refl)
 
 -- a step brings one byte at most
-pub read-room : (k : Kind) (p : Place) (b : ℕ) → length (bytesOf (read k p b .place)) ≤ length (bytesOf p) + 1
+pub read-room : (k : Way) (p : Place) (b : ℕ) → length (bytesOf (read k p b .place)) ≤ length (bytesOf p) + 1
 read-room k p b = go (ways k p b)
   where
     Room : Read → Type 0
@@ -76,7 +76,7 @@ abbrev pub onto : Run → ℕ → ℕ → Told
 onto r b w = record { reader = readerOf (r .place); broken = b + count brokenIn (r .events); whole = w + count wholeIn (r .events) }
 
 -- what is known at the loop's head
-pub record Head (kind : Kind) (bytes array : List ℕ) (reader : Reader) (b w i : ℕ) : Type 0 where
+pub record Head (kind : Way) (bytes array : List ℕ) (reader : Reader) (b w i : ℕ) : Type 0 where
   pub within : i ≤ length bytes
   pub size : length array ≡ 256
   pub small : reader .count < 256
@@ -85,7 +85,7 @@ pub record Head (kind : Kind) (bytes array : List ℕ) (reader : Reader) (b w i 
   pub whole-few : w ≤ i
   pub told : toldOf (run kind outside bytes) ≡ onto (run kind (placeOf reader array) (drop i bytes)) b w
 
-pub head-start : (kind : Kind) (bytes : List ℕ) (reader : Reader) → reader ≡ readerOf outside → Head kind bytes (replicate 256 0) reader 0 0 0
+pub head-start : (kind : Way) (bytes : List ℕ) (reader : Reader) → reader ≡ readerOf outside → Head kind bytes (replicate 256 0) reader 0 0 0
 head-start kind bytes reader e =
     subst (λ r. Head kind bytes (replicate 256 0) r 0 0 0) (sym e)
     (record {
@@ -114,7 +114,7 @@ onto-cons : (r : Run) (e : Event) (b w : ℕ)
 onto-cons r e b w = rw (broken-heard e, whole-heard e, add-assoc b (brokenIn e), add-assoc w (wholeIn e))
 
 -- a turn, first with the fields and the array as the step makes them
-module _ (kind : Kind) (bytes array : List ℕ) (reader : Reader) (b w i : ℕ) (h : Head kind bytes array reader b w i) (more : i < length bytes) where
+module _ (kind : Way) (bytes array : List ℕ) (reader : Reader) (b w i : ℕ) (h : Head kind bytes array reader b w i) (more : i < length bytes) where
   abbrev step : Read
   step = read kind (placeOf reader array) (getD bytes i 0)
 
@@ -150,7 +150,7 @@ module _ (kind : Kind) (bytes array : List ℕ) (reader : Reader) (b w i : ℕ) 
   head-turn array' taken et ea fits b' w' eb ew =
       rw (eb, ew, et, ea) (made-turn (subst (λ (t : Taken). t .reader .count < 256) et fits))
 
-pub head-done : (kind : Kind) (bytes array : List ℕ) (reader : Reader) (b w i : ℕ) → Head kind bytes array reader b w i → length bytes ≤ i
+pub head-done : (kind : Way) (bytes array : List ℕ) (reader : Reader) (b w i : ℕ) → Head kind bytes array reader b w i → length bytes ≤ i
     → record { reader = reader; broken = b; whole = w } ≡ toldOf (run kind outside bytes)
 head-done kind bytes array reader b w i h done =
     sym (h .told ∙ ap (λ z. onto (run kind (placeOf reader array) z) b w) (drop-of-length-le bytes done) ∙ rw (add-zero b, add-zero w, ← h .fields))

@@ -15,13 +15,13 @@ use Rattle.wire.specs.Places.{front, ending, none, shortest, longest}
 use Rattle.reader.specs.Reading.{Place, outside, inside, Read, nothing, brokenFrame, heard, suits, atLast, grown, message, read, readOther, startsAnew}
 use Rattle.reader.specs.Fields.{heardOf, keptIn, takenOf, placeOf}
 use Rattle.reader.specs.Private.{Behind}
-use Rattle.wire.specs.declared.Kind.{Kind}
+use Rattle.wire.specs.declared.Way.{Way}
 use Rattle.reader.specs.declared.Reader.{Reader}
 use Rattle.reader.specs.declared.Taken.{Taken}
 use Rattle.reader.specs.declared.Heard.the-variants.{Nothing, Whole}
 
 -- what a place inside a frame becomes, by the three answers
-module _ (k : Kind) (sum : ℕ) (bytes : List ℕ) (b : ℕ) where
+module _ (k : Way) (sum : ℕ) (bytes : List ℕ) (b : ℕ) where
   pub reads-broken : suits k sum bytes b ≡ false → readOther k (inside sum bytes) b ≡ record { place = outside; event = brokenFrame }
   reads-broken e = rw e
 
@@ -39,7 +39,7 @@ pub reads : (array after : List ℕ) (r : Taken) (x y : Read) → x ≡ y → r 
 reads array after r x y e p q = (p ∙ ap takenOf (sym e), q ∙ ap (λ z. keptIn array (z .place)) (sym e))
 
 -- the byte directly behind 01h
-module _ (k : Kind) (b : ℕ) where
+module _ (k : Way) (b : ℕ) where
   pub len-low : b < shortest k → readOther k (inside 0 []) b ≡ record { place = outside; event = brokenFrame }
   len-low h = reads-broken k 0 [] b (rw (lt-leb (shortest k) b h))
 
@@ -60,7 +60,7 @@ first-of (suc i) (x ∷ array) h s =
     let back : suc i - 1 ≡ i = omega arith in
     rw back
 
-module _ (k : Kind) (n count : ℕ) (array : List ℕ) (in-frame : Behind k n count array) (fits : count < 256) (sum b : ℕ) where
+module _ (k : Way) (n count : ℕ) (array : List ℕ) (in-frame : Behind k n count array) (fits : count < 256) (sum b : ℕ) where
   abbrev bytes : List ℕ
   bytes = take count array
 
@@ -143,10 +143,10 @@ module _ (k : Kind) (n count : ℕ) (array : List ℕ) (in-frame : Behind k n co
         rw (getD-take count array 0 0 (omega arith), ← in-frame .announced, content, getD-take count array 1 0 (omega arith), getD-take count array 2 0 (omega arith))
 
 -- one byte, by its first test
-pub read-start : (k : Kind) (p : Place) (b : ℕ) → b ≡ 0x01 → read k p b ≡ record { place = inside 0 []; event = startsAnew p }
+pub read-start : (k : Way) (p : Place) (b : ℕ) → b ≡ 0x01 → read k p b ≡ record { place = inside 0 []; event = startsAnew p }
 read-start k p b e = rw e
 
-pub read-other : (k : Kind) (p : Place) (b : ℕ) → (b ≡ 0x01 → ⊥) → read k p b ≡ readOther k p b
+pub read-other : (k : Way) (p : Place) (b : ℕ) → (b ≡ 0x01 → ⊥) → read k p b ≡ readOther k p b
 read-other k p b e = rw (ne-eqb b 0x01 e)
 
 -- 01h, as the fields tell it
@@ -165,7 +165,7 @@ pub place-out : (r : Reader) (array : List ℕ) → r .inside ≡ false → plac
 place-out r array e = rw e
 
 -- the five ways of a byte, wherever reading stands
-pub data Ways (k : Kind) (p : Place) (b : ℕ) : Type 0 where
+pub data Ways (k : Way) (p : Place) (b : ℕ) : Type 0 where
   starts-anew : b ≡ 0x01 → read k p b ≡ record { place = inside 0 []; event = startsAnew p } → Ways k p b
   is-skipped : p ≡ outside → read k p b ≡ record { place = outside; event = nothing } → Ways k p b
   breaks : read k p b ≡ record { place = outside; event = brokenFrame } → Ways k p b
@@ -174,7 +174,7 @@ pub data Ways (k : Kind) (p : Place) (b : ℕ) : Type 0 where
   ends : (sum : ℕ) (bytes : List ℕ) → p ≡ inside sum bytes → suits k sum bytes b ≡ true → atLast k bytes ≡ true
       → read k p b ≡ record { place = outside; event = heard (message k bytes) } → Ways k p b
 
-pub ways : (k : Kind) (p : Place) (b : ℕ) → Ways k p b
+pub ways : (k : Way) (p : Place) (b : ℕ) → Ways k p b
 ways k p b = go (eqb b 0x01) refl p
   where
     go : (start : Bool) → eqb b 0x01 ≡ start → (q : Place) → Ways k q b

@@ -9,7 +9,7 @@ use lib.Seq.{getD-append-seam}
 use borrow.Author.Tests.{ne-eqb, lt-ltb, le-ltb}
 use Rattle.wire.specs.Frame.{total}
 use Rattle.wire.specs.Places.{none, front, ending, dataCount}
-use Rattle.wire.specs.declared.Kind.{Kind}
+use Rattle.wire.specs.declared.Way.{Way}
 use Rattle.reader.specs.Reading.{Place, inside, nothing, Read, read, Run, run, grown}
 use Rattle.reader.proofs.Steps.{read-other, reads-more}
 use Rattle.reader.proofs.Passing.{Pass, done, more, not-01}
@@ -28,12 +28,12 @@ sum-snoc sum [] b = refl
 sum-snoc sum (x ∷ bs) b = sum-snoc ((sum + x) % 65536) bs b
 
 -- a run, one byte taken off its front
-pub run-first : (k : Kind) (p : Place) (b : ℕ) (bs : List ℕ) (r : Read) → read k p b ≡ r
+pub run-first : (k : Way) (p : Place) (b : ℕ) (bs : List ℕ) (r : Read) → read k p b ≡ r
     → run k p (b ∷ bs) ≡ record { place = run k (r .place) bs .place; events = r .event ∷ run k (r .place) bs .events }
 run-first k p b bs r e = rw e
 
 -- a run in two parts
-pub run-append : (k : Kind) (p : Place) (xs ys : List ℕ)
+pub run-append : (k : Way) (p : Place) (xs ys : List ℕ)
     → run k p (xs ++ ys) ≡ record { place = run k (run k p xs .place) ys .place; events = run k p xs .events ++ run k (run k p xs .place) ys .events }
 run-append k p [] ys = refl
 run-append k p (x ∷ xs) ys = ap (λ (r : Run). record { place = r .place; events = read k p x .event ∷ r .events }) (run-append k (read k p x .place) xs ys)
@@ -43,7 +43,7 @@ abbrev pub quiet : Place → ℕ → Run
 quiet p n = record { place = p; events = replicate n nothing }
 
 -- silence, and then what the rest brings
-pub quiet-then : (k : Kind) (p q : Place) (xs ys : List ℕ) (n : ℕ) (r : Run) → run k p xs ≡ quiet q n → run k q ys ≡ r
+pub quiet-then : (k : Way) (p q : Place) (xs ys : List ℕ) (n : ℕ) (r : Run) → run k p xs ≡ quiet q n → run k q ys ≡ r
     → run k p (xs ++ ys) ≡ record { place = r .place; events = replicate n nothing ++ r .events }
 quiet-then k p q xs ys n r e f =
     run-append k p xs ys
@@ -53,7 +53,7 @@ quiet-then k p q xs ys n r e f =
 longer : (us : List (ℕ → Bool)) (pre : List ℕ) (t : ℕ → Bool) (x : ℕ) → length us ≡ length pre → length (us ++ t ∷ []) ≡ length (pre ++ x ∷ [])
 longer us pre t x l = omega (arith, length-append us (t ∷ []), length-append pre (x ∷ []))
 
-module _ (k : Kind) (len : ℕ) where
+module _ (k : Way) (len : ℕ) where
   abbrev places : List (ℕ → Bool)
   places = front k (dataCount k len)
 

@@ -1,4 +1,3 @@
 pub mod Reading
 pub mod Fields
-pub mod Stretches
 pub mod Private

@@ -7,7 +7,7 @@ use lib.ListN.{length, getD, take, drop}
 use Rattle.wire.specs.Bytes.{within}
 use Rattle.wire.specs.Frame.{Message, statuses}
 use Rattle.wire.specs.Places.{none, front, ending, dataCount, shortest, longest}
-use Rattle.wire.specs.declared.Kind.{Kind}
+use Rattle.wire.specs.declared.Way.{Way}
 
 -- PROTOCOL 1.7: where reading stands: outside a frame, or inside one with the bytes since 01h; sum is that of those from LEN to 05h
 pub data Place : Type 0 where
@@ -15,17 +15,17 @@ pub data Place : Type 0 where
   inside : (sum : ℕ) (bytes : List ℕ) → Place
 
 -- PROTOCOL 1.7: whether a byte suits its place: LEN by its range, all others by the tests
-abbrev pub suits : Kind → ℕ → List ℕ → ℕ → Bool
+abbrev pub suits : Way → ℕ → List ℕ → ℕ → Bool
 suits k sum [] b = within (shortest k) (longest k) b
 suits k sum (len ∷ bytes) b = getD (front k (dataCount k len) ++ ending sum) (length bytes) none b
 
 -- PROTOCOL 1.2: whether the next byte is the frame's last: 05h and four BCC bytes have come
-abbrev pub atLast : Kind → List ℕ → Bool
+abbrev pub atLast : Way → List ℕ → Bool
 atLast k [] = false
 atLast k (len ∷ bytes) = eqb (length bytes) (length (front k (dataCount k len)) + 4)
 
 -- PROTOCOL 1.5: the sum with one byte more: only LEN to 05h are added. Four hexadecimal digits hold it (DECISIONS 4).
-abbrev pub grown : Kind → ℕ → List ℕ → ℕ → ℕ
+abbrev pub grown : Way → ℕ → List ℕ → ℕ → ℕ
 grown k sum [] b = b
 grown k sum (len ∷ bytes) b = cond (ltb (length bytes) (length (front k (dataCount k len)))) ((sum + b) % 65536) sum
 
@@ -35,11 +35,11 @@ pub data Standing : Type 0 where
   beginning : Standing
   whole : Standing
 
-abbrev pub standing : Kind → ℕ → List ℕ → ℕ → Standing
+abbrev pub standing : Way → ℕ → List ℕ → ℕ → Standing
 standing k sum bytes b = cond (suits k sum bytes b) (cond (atLast k bytes) whole beginning) broken
 
 -- PROTOCOL 1.2: the command or answer that the bytes LEN to 05h say
-abbrev pub message : Kind → List ℕ → Message
+abbrev pub message : Way → List ℕ → Message
 message k bytes =
     let n = dataCount k (getD bytes 0 0) in
     record {
@@ -73,13 +73,13 @@ goesOn beginning next m = record { place = next; event = nothing }
 goesOn whole next m = record { place = outside; event = heard m }
 
 -- PROTOCOL 1.7: any byte but 01h: outside a frame it is skipped, inside one it has its place
-abbrev pub readOther : Kind → Place → ℕ → Read
+abbrev pub readOther : Way → Place → ℕ → Read
 readOther k outside b = record { place = outside; event = nothing }
 readOther k (inside sum bytes) b =
     goesOn (standing k sum bytes b) (inside (grown k sum bytes b) (bytes ++ b ∷ [])) (message k bytes)
 
 -- PROTOCOL 1.9: one step of reading; 01h begins anew wherever it comes
-abbrev pub read : Kind → Place → ℕ → Read
+abbrev pub read : Way → Place → ℕ → Read
 read k p b = cond (eqb b 0x01) (record { place = inside 0 []; event = startsAnew p }) (readOther k p b)
 
 -- a whole run of bytes: where reading stands behind it, and what each byte brought
@@ -87,7 +87,7 @@ pub record Run : Type 0 where
   pub place : Place
   pub events : List Event
 
-abbrev pub run : Kind → Place → List ℕ → Run
+abbrev pub run : Way → Place → List ℕ → Run
 run k p [] = record { place = p; events = [] }
 run k p (b ∷ bs) =
     let rest = run k (read k p b .place) bs in

@@ -1,9 +1,7 @@
 // Reading a frame, one byte at a time (PROTOCOL 1.7 to 1.9).
-pub mod stretches;
-
-use wire::Kind;
 use wire::LEAST_LEN;
 use wire::MOST_DATA;
+use wire::Way;
 use wire::suit;
 ghost use mathlib.Core.Path.{_≡_};
 ghost use mathlib.Core.Bool.{cond, _&&_};
@@ -38,14 +36,6 @@ pub struct Taken {
     pub heard: Heard,
 }
 
-// What a stretch of bytes brought, and how many they were: those of a lent part up to and including the first that brings something, or
-// all of them.
-pub struct Stretch {
-    pub reader: Reader,
-    pub heard: Heard,
-    pub taken: usize,
-}
-
 // What a whole run of bytes brought: where reading stands behind it, the broken frames and the whole ones.
 pub struct Told {
     pub reader: Reader,
@@ -65,9 +55,9 @@ pub fn fresh() -> Reader
 }
 
 // One byte: what it brings, and where reading stands behind it.
-pub fn take_byte(kind: Kind, reader: Reader, array: &mut [u8; FRAME_ROOM], b: u8) -> Taken
-    ensures { λ r. ⌜ r ≡ takenOf (read kind (placeOf reader (now (array .entry))) b) ⌝ }
-    ensures { λ r. ⌜ now (array .exit) ≡ keptIn (now (array .entry)) (read kind (placeOf reader (now (array .entry))) b .place) ⌝ }
+pub fn take_byte(way: Way, reader: Reader, array: &mut [u8; FRAME_ROOM], b: u8) -> Taken
+    ensures { λ r. ⌜ r ≡ takenOf (read way (placeOf reader (now (array .entry))) b) ⌝ }
+    ensures { λ r. ⌜ now (array .exit) ≡ keptIn (now (array .entry)) (read way (placeOf reader (now (array .entry))) b .place) ⌝ }
 {
     let len = first(&*array);
     let within = reader.inside;
@@ -82,16 +72,9 @@ pub fn take_byte(kind: Kind, reader: Reader, array: &mut [u8; FRAME_ROOM], b: u8
         };
     }
     if count == 0 {
-        return take_len(kind, array, b);
+        return take_len(way, array, b);
     }
-    take_behind(
-        kind,
-        suit::data_count(kind, len),
-        count,
-        reader.sum,
-        array,
-        b,
-    )
+    take_behind(way, suit::data_count(way, len), count, reader.sum, array, b)
 }
 
 // The first byte, which is LEN inside a frame.
@@ -105,8 +88,8 @@ fn first(bytes: &[u8]) -> u8
 }
 
 // A whole run of bytes, heard by a fresh reader.
-pub fn listen(kind: Kind, bytes: &[u8]) -> Told
-    ensures { λ r. ⌜ r ≡ toldOf (run kind outside (now (bytes .entry))) ⌝ }
+pub fn listen(way: Way, bytes: &[u8]) -> Told
+    ensures { λ r. ⌜ r ≡ toldOf (run way outside (now (bytes .entry))) ⌝ }
 {
     let mut array = [0u8; FRAME_ROOM];
     let mut reader = fresh();
@@ -114,7 +97,7 @@ pub fn listen(kind: Kind, bytes: &[u8]) -> Told
     let mut whole: usize = 0;
     let mut i = 0;
     while i < bytes.len() {
-        let taken = take_byte(kind, reader, &mut array, bytes[i]);
+        let taken = take_byte(way, reader, &mut array, bytes[i]);
         let next = taken.reader;
         let heard = taken.heard;
         reader = next;
@@ -194,11 +177,11 @@ fn broken() -> Taken
 }
 
 // The byte directly behind 01h.
-fn take_len(kind: Kind, array: &mut [u8; FRAME_ROOM], b: u8) -> Taken
-    ensures { λ r. ⌜ r ≡ takenOf (readOther kind (inside 0 []) b) ⌝ }
-    ensures { λ r. ⌜ now (array .exit) ≡ keptIn (now (array .entry)) (readOther kind (inside 0 []) b .place) ⌝ }
+fn take_len(way: Way, array: &mut [u8; FRAME_ROOM], b: u8) -> Taken
+    ensures { λ r. ⌜ r ≡ takenOf (readOther way (inside 0 []) b) ⌝ }
+    ensures { λ r. ⌜ now (array .exit) ≡ keptIn (now (array .entry)) (readOther way (inside 0 []) b .place) ⌝ }
 {
-    let least = LEAST_LEN + suit::behind_data(kind);
+    let least = LEAST_LEN + suit::behind_data(way);
     let len = b as usize;
     if len < least {
         return broken();
@@ -219,41 +202,34 @@ fn take_len(kind: Kind, array: &mut [u8; FRAME_ROOM], b: u8) -> Taken
 
 // A byte behind LEN.
 fn take_behind(
-    kind: Kind,
+    way: Way,
     n: usize,
     count: u8,
     sum: u16,
     array: &mut [u8; FRAME_ROOM],
     b: u8,
 ) -> Taken
-    requires { ⌜ Behind kind n count (now array) ⌝ }
-    ensures { λ r. ⌜ r ≡ takenOf (readOther kind (inside sum (take count (now (array .entry)))) b) ⌝ }
-    ensures { λ r. ⌜ now (array .exit) ≡ keptIn (now (array .entry)) (readOther kind (inside sum (take count (now (array .entry)))) b .place) ⌝ }
+    requires { ⌜ Behind way n count (now array) ⌝ }
+    ensures { λ r. ⌜ r ≡ takenOf (readOther way (inside sum (take count (now (array .entry)))) b) ⌝ }
+    ensures { λ r. ⌜ now (array .exit) ≡ keptIn (now (array .entry)) (readOther way (inside sum (take count (now (array .entry)))) b .place) ⌝ }
 {
-    let edge = 3 + n + suit::behind_data(kind);
+    let edge = 3 + n + suit::behind_data(way);
     let at = count as usize - 1;
     if at < edge {
-        return take_front(kind, n, count, sum, array, b);
+        return take_front(way, n, count, sum, array, b);
     }
-    take_ending(kind, n, edge, count, sum, array, b)
+    take_ending(way, n, edge, count, sum, array, b)
 }
 
 // A byte up to 05h: it is added.
-fn take_front(
-    kind: Kind,
-    n: usize,
-    count: u8,
-    sum: u16,
-    array: &mut [u8; FRAME_ROOM],
-    b: u8,
-) -> Taken
-    requires { ⌜ Behind kind n count (now array) ⌝ }
-    requires { ⌜ count ≤ length (front kind n) ⌝ }
-    ensures { λ r. ⌜ r ≡ takenOf (readOther kind (inside sum (take count (now (array .entry)))) b) ⌝ }
-    ensures { λ r. ⌜ now (array .exit) ≡ keptIn (now (array .entry)) (readOther kind (inside sum (take count (now (array .entry)))) b .place) ⌝ }
+fn take_front(way: Way, n: usize, count: u8, sum: u16, array: &mut [u8; FRAME_ROOM], b: u8) -> Taken
+    requires { ⌜ Behind way n count (now array) ⌝ }
+    requires { ⌜ count ≤ length (front way n) ⌝ }
+    ensures { λ r. ⌜ r ≡ takenOf (readOther way (inside sum (take count (now (array .entry)))) b) ⌝ }
+    ensures { λ r. ⌜ now (array .exit) ≡ keptIn (now (array .entry)) (readOther way (inside sum (take count (now (array .entry)))) b .place) ⌝ }
 {
     let i = count as usize;
-    if !suit::suits_front(kind, n, i - 1, b) {
+    if !suit::suits_front(way, n, i - 1, b) {
         return broken();
     }
     array[i] = b;
@@ -269,7 +245,7 @@ fn take_front(
 
 // A byte behind 05h; the fifth is the frame's last.
 fn take_ending(
-    kind: Kind,
+    way: Way,
     n: usize,
     edge: usize,
     count: u8,
@@ -277,11 +253,11 @@ fn take_ending(
     array: &mut [u8; FRAME_ROOM],
     b: u8,
 ) -> Taken
-    requires { ⌜ Behind kind n count (now array) ⌝ }
-    requires { ⌜ edge ≡ length (front kind n) ⌝ }
+    requires { ⌜ Behind way n count (now array) ⌝ }
+    requires { ⌜ edge ≡ length (front way n) ⌝ }
     requires { ⌜ edge < count ⌝ }
-    ensures { λ r. ⌜ r ≡ takenOf (readOther kind (inside sum (take count (now (array .entry)))) b) ⌝ }
-    ensures { λ r. ⌜ now (array .exit) ≡ keptIn (now (array .entry)) (readOther kind (inside sum (take count (now (array .entry)))) b .place) ⌝ }
+    ensures { λ r. ⌜ r ≡ takenOf (readOther way (inside sum (take count (now (array .entry)))) b) ⌝ }
+    ensures { λ r. ⌜ now (array .exit) ≡ keptIn (now (array .entry)) (readOther way (inside sum (take count (now (array .entry)))) b .place) ⌝ }
 {
     let i = count as usize;
     let at = i - 1 - edge;

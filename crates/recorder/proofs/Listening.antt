@@ -9,7 +9,7 @@ use lib.ListN.{length, take, drop, replicate, length-append, length-drop, length
 use lib.Seq.{sets, length-sets, drop-drop}
 use Rattle.text.proofs.Laws.{sets-append, sets-out}
 use Rattle.wire.specs.Frame.{Message}
-use Rattle.wire.specs.declared.Kind.the-variants.{Command}
+use Rattle.wire.specs.declared.Way.the-variants.{ToDevice}
 use Rattle.reader.proofs.Holding.{Underway}
 use Rattle.line.specs.Turns.{Session, session}
 use Rattle.line.specs.declared.Call.{Call}
@@ -124,7 +124,7 @@ pub record Head (bytes out0 orders0 out orders : List ℕ) (m : Machine) (lent :
   pub frames : length (m .frame) ≡ 256
   pub lasts : length (m .last) ≡ 217
   pub room : length (lent .buffer) ≡ 217
-  pub held : Underway Command (stateOf m .place)
+  pub held : Underway ToDevice (stateOf m .place)
   pub outs : length out ≡ length out0
   pub orderss : length orders ≡ length orders0
   pub written-in : written ≤ length out

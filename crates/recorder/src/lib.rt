@@ -1,6 +1,9 @@
 // A recording: all the bytes that a fresh device heard (PROTOCOL 1.1).
 use books::Books;
 use line::Call;
+use line::MOST_HELD;
+use reader::FRAME_ROOM;
+use wire::ANSWER_ROOM;
 ghost use mathlib.Core.Path.{_≡_};
 ghost use Prim.Native.Nat.{_+_, _≤_, min};
 ghost use lib.ListN.{length};
@@ -20,9 +23,9 @@ pub struct Recorded {
 pub fn hear_all(bytes: &[u8], out: &mut [u8], orders: &mut [u8]) -> Recorded
     ensures { λ r. ⌜ record { recorded = r; out = now (out .exit); orders = now (orders .exit) } ≡ toldIn (now (out .entry)) (now (orders .entry)) (recording (now (bytes .entry))) ⌝ }
 {
-    let mut frame = [0u8; 256];
-    let mut last = [0u8; 217];
-    let mut buf = [0u8; 217];
+    let mut frame = [0u8; FRAME_ROOM];
+    let mut last = [0u8; ANSWER_ROOM];
+    let mut buf = [0u8; ANSWER_ROOM];
     let mut device = device::fresh();
     let mut written: usize = 0;
     let mut listed: usize = 0;
@@ -75,7 +78,7 @@ fn list_call(call: Call, frame: &[u8], orders: &mut [u8], at: usize) -> usize
         Call::Nak => at,
         Call::Again => at,
         Call::Order { seq, code, count } => {
-            let n = basics::least_size(count, 253);
+            let n = basics::least_size(count, MOST_HELD);
             let end = n + 3;
             let head = [seq, code, (n % 256) as u8];
             let behind = append(orders, at, &head);

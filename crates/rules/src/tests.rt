@@ -112,11 +112,5 @@ pub fn day_at(day: [u64; 8], group: u64) -> u64
 pub fn passes(sum: u64, n: u64) -> bool
     ensures { λ r. ⌜ r ≡ not (inTwelve (sum + n)) ⌝ }
 {
-    if 999999999999 < sum {
-        return true;
-    }
-    if 999999999999 - sum < n {
-        return true;
-    }
-    false
+    !amounts::fits_sum(sum, n)
 }

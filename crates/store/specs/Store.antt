@@ -1,4 +1,4 @@
--- PROTOCOL 8.3: what commands work on, and so what a device remembers from one to the next. DECISIONS 62: whatever else commands come to work on is a field
+-- PROTOCOL 8.3: what commands work on, and so what a device remembers from one to the next. DECISIONS 63: whatever else commands come to work on is a field
 -- here.
 use Rattle.books.specs.Books.{freshBooks}
 use Rattle.books.specs.declared.Books.{Books}

@@ -7,7 +7,7 @@ use native.Mathlib.Omega.{arith}
 use lib.Dec.{eqb}
 use lib.ListN.{length}
 use Rattle.wire.specs.Frame.{Message}
-use Rattle.wire.specs.declared.Kind.{Kind}
+use Rattle.wire.specs.declared.Way.{Way}
 use Rattle.reader.specs.Reading.{Place, outside, inside, Read, Event, nothing, brokenFrame, heard, suits, atLast, read, readOther, startsAnew, message}
 use Rattle.reader.proofs.Steps.{reads-broken, reads-more, reads-whole}
 use Rattle.reader.specs.Fields.{heardOf}
@@ -38,7 +38,7 @@ told-whole brokenFrame seq code n h = let z : _≡_ {A = ℕ} 0 1 = cc in absurd
 told-whole (heard m) seq code n h = record { message = m; is = refl; seq-is = cc; code-is = cc; size = cc }
 
 -- a byte that breaks a frame, and is not 01h, leaves it
-pub broken-outside : (k : Kind) (p : Place) (b : ℕ) → eqb b 0x01 ≡ false → read k p b .event ≡ brokenFrame → read k p b .place ≡ outside
+pub broken-outside : (k : Way) (p : Place) (b : ℕ) → eqb b 0x01 ≡ false → read k p b .event ≡ brokenFrame → read k p b .place ≡ outside
 broken-outside k p b other = rw other (go p)
   where
     go : (q : Place) → readOther k q b .event ≡ brokenFrame → readOther k q b .place ≡ outside
@@ -54,7 +54,7 @@ broken-outside k p b other = rw other (go p)
             absurd (omega arith)
 
 -- where a whole message comes from
-pub record From (k : Kind) (p : Place) (b : ℕ) (m : Message) : Type 0 where
+pub record From (k : Way) (p : Place) (b : ℕ) (m : Message) : Type 0 where
   pub sum : ℕ
   pub bytes : List ℕ
   pub was : p ≡ inside sum bytes
@@ -67,7 +67,7 @@ no-start outside m e = let z : _≡_ {A = ℕ} 0 1 = cc in omega arith
 no-start (inside sum []) m e = let z : _≡_ {A = ℕ} 0 1 = cc in omega arith
 no-start (inside sum (b ∷ bytes)) m e = let z : _≡_ {A = ℕ} 0 1 = cc in omega arith
 
-pub heard-from : (k : Kind) (p : Place) (b : ℕ) (m : Message) → read k p b .event ≡ heard m → From k p b m
+pub heard-from : (k : Way) (p : Place) (b : ℕ) (m : Message) → read k p b .event ≡ heard m → From k p b m
 heard-from k p b m = first (eqb b 0x01) refl
   where
     other : (q : Place) → read k q b ≡ readOther k q b → readOther k q b .event ≡ heard m → From k q b m

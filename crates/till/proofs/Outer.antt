@@ -13,7 +13,7 @@ use Rattle.wire.specs.Frame.{Message, commandOf, frame, sendable}
 use Rattle.wire.specs.Replies.{Reply, replyOf, building}
 use Rattle.wire.specs.declared.Built.{Built}
 use Rattle.wire.specs.declared.Built.the-variants.{Frame, Short, Unsendable}
-use Rattle.wire.specs.declared.Kind.the-variants.{Command}
+use Rattle.wire.specs.declared.Way.the-variants.{ToDevice}
 use Rattle.wire.proofs.Building.{can, cannot}
 use Rattle.reader.specs.Reading.{outside, inside}
 use Rattle.reader.proofs.RoundTrip.{frame-size}
@@ -110,7 +110,7 @@ abbrev bySendable : ℕ → Message → Bool → Turn
 bySendable next m s = cond s (sent next m) (stays NotSent (record { next = next; pending = idle }))
 
 pub said-sent : (t : Till) (code : ℕ) (content : List ℕ) → t .slot ≡ Free → spoken (sentBy (t .next) code content) ≡ saidOf t (sentBy (t .next) code content)
-said-sent t code content e = go (sendable Command (commandOf (t .next) code content))
+said-sent t code content e = go (sendable ToDevice (commandOf (t .next) code content))
   where
     go : (s : Bool) → spoken (bySendable (t .next) (commandOf (t .next) code content) s) ≡ saidOf t (bySendable (t .next) (commandOf (t .next) code content) s)
     go true = refl
@@ -135,17 +135,17 @@ module _ (next code : ℕ) (content array : List ℕ) (size : length array ≡ 2
   abbrev m : Message
   m = commandOf next code content
 
-  built-as : (s : Bool) → sendable Command m ≡ s
-      → building Command array m
-      ≡ cond s (record { number = 0; count = length (frame Command m); buffer = sets array 0 (frame Command m) }) (record { number = 8; count = 0; buffer = array })
-  built-as true e = can Command array m (omega arith) e
-  built-as false e = cannot Command array m (omega arith) e
+  built-as : (s : Bool) → sendable ToDevice m ≡ s
+      → building ToDevice array m
+      ≡ cond s (record { number = 0; count = length (frame ToDevice m); buffer = sets array 0 (frame ToDevice m) }) (record { number = 8; count = 0; buffer = array })
+  built-as true e = can ToDevice array m (omega arith) e
+  built-as false e = cannot ToDevice array m (omega arith) e
 
-  pub built-frame : (r : Built) (after : List ℕ) (n : ℕ) → r ≡ Frame n → replyOf r after ≡ building Command array m
-      → (sendable Command m ≡ true) × ((n ≡ length (frame Command m)) × (after ≡ sets array 0 (frame Command m)))
-  built-frame r after n is e = go (sendable Command m) refl
+  pub built-frame : (r : Built) (after : List ℕ) (n : ℕ) → r ≡ Frame n → replyOf r after ≡ building ToDevice array m
+      → (sendable ToDevice m ≡ true) × ((n ≡ length (frame ToDevice m)) × (after ≡ sets array 0 (frame ToDevice m)))
+  built-frame r after n is e = go (sendable ToDevice m) refl
     where
-      go : (s : Bool) → sendable Command m ≡ s → (sendable Command m ≡ true) × ((n ≡ length (frame Command m)) × (after ≡ sets array 0 (frame Command m)))
+      go : (s : Bool) → sendable ToDevice m ≡ s → (sendable ToDevice m ≡ true) × ((n ≡ length (frame ToDevice m)) × (after ≡ sets array 0 (frame ToDevice m)))
       go true es =
           let all = ap (λ z. replyOf z after) (sym is) ∙ e ∙ built-as true es in
           (es, (ap (λ (z : Reply). z .count) all, ap (λ (z : Reply). z .buffer) all))
@@ -154,23 +154,23 @@ module _ (next code : ℕ) (content array : List ℕ) (size : length array ≡ 2
           absurd (omega (arith, ap (λ (z : Reply). z .number) all))
 
   -- the array is long enough
-  pub built-short : (r : Built) (after : List ℕ) → r ≡ Short → replyOf r after ≡ building Command array m → ⊥
-  built-short r after is e = go (sendable Command m) refl
+  pub built-short : (r : Built) (after : List ℕ) → r ≡ Short → replyOf r after ≡ building ToDevice array m → ⊥
+  built-short r after is e = go (sendable ToDevice m) refl
     where
-      go : (s : Bool) → sendable Command m ≡ s → ⊥
+      go : (s : Bool) → sendable ToDevice m ≡ s → ⊥
       go true es = omega (arith, ap (λ (z : Reply). z .number) (ap (λ z. replyOf z after) (sym is) ∙ e ∙ built-as true es))
       go false es = omega (arith, ap (λ (z : Reply). z .number) (ap (λ z. replyOf z after) (sym is) ∙ e ∙ built-as false es))
 
-  pub built-not : (r : Built) (after : List ℕ) → r ≡ Unsendable → replyOf r after ≡ building Command array m
-      → (sendable Command m ≡ false) × (after ≡ array)
-  built-not r after is e = go (sendable Command m) refl
+  pub built-not : (r : Built) (after : List ℕ) → r ≡ Unsendable → replyOf r after ≡ building ToDevice array m
+      → (sendable ToDevice m ≡ false) × (after ≡ array)
+  built-not r after is e = go (sendable ToDevice m) refl
     where
-      go : (s : Bool) → sendable Command m ≡ s → (sendable Command m ≡ false) × (after ≡ array)
+      go : (s : Bool) → sendable ToDevice m ≡ s → (sendable ToDevice m ≡ false) × (after ≡ array)
       go true es = absurd (omega (arith, ap (λ (z : Reply). z .number) (ap (λ z. replyOf z after) (sym is) ∙ e ∙ built-as true es)))
       go false es = (es, ap (λ (z : Reply). z .buffer) (ap (λ z. replyOf z after) (sym is) ∙ e ∙ built-as false es))
 
   -- not sent
-  pub says-not : sendable Command m ≡ false → (after buf : List ℕ) → after ≡ array
+  pub says-not : sendable ToDevice m ≡ false → (after buf : List ℕ) → after ≡ array
       → (record { till = record { next = next; slot = Free }; word = NotSent } ≡ spoken (sentBy next code content))
       × ((after ≡ framed array (sentBy next code content .state .pending)) × (buf ≡ sets buf 0 (sentBy next code content .puts)))
   says-not e after buf same =
@@ -178,15 +178,15 @@ module _ (next code : ℕ) (content array : List ℕ) (size : length array ≡ 2
       (ap spoken (sym turn), (same ∙ ap (λ (z : Turn). framed array (z .state .pending)) (sym turn), ap (λ (z : Turn). sets buf 0 (z .puts)) (sym turn)))
 
   -- sent: the frame that is handed out is the one that is held
-  pub says-sent : sendable Command m ≡ true → (n : ℕ) → n ≡ length (frame Command m) → (after buf buf' : List ℕ) → after ≡ sets array 0 (frame Command m)
+  pub says-sent : sendable ToDevice m ≡ true → (n : ℕ) → n ≡ length (frame ToDevice m) → (after buf buf' : List ℕ) → after ≡ sets array 0 (frame ToDevice m)
       → buf' ≡ sets buf 0 (take n after) → (up : ℕ) → up ≡ seqAfter next → (start : EarFields) → start ≡ earOf freshEar
       → (record { till = record { next = up; slot = Held (record { seq = next; code = code; tries = 1; count = n; ear = start }) }; word = Waiting n } ≡ spoken (sentBy next code content))
       × ((after ≡ framed array (sentBy next code content .state .pending)) × (buf' ≡ sets buf 0 (sentBy next code content .puts)))
   says-sent e n count after buf buf' ea eb up eu start es =
       let turn : sentBy next code content ≡ sent next m = ap (bySendable next m) e in
-      let fits = frame-size Command m e .1 in
-      let held : take n after ≡ frame Command m =
-      ap (take n) (ea ∙ sets-eq (frame Command m) array 0 (omega arith)) ∙ take-at (frame Command m) _ n (sym count) in (
+      let fits = frame-size ToDevice m e .1 in
+      let held : take n after ≡ frame ToDevice m =
+      ap (take n) (ea ∙ sets-eq (frame ToDevice m) array 0 (omega arith)) ∙ take-at (frame ToDevice m) _ n (sym count) in (
         (λ i. record {
           till = record { next = eu i; slot = Held (record { seq = next; code = code; tries = 1; count = count i; ear = es i }) };
           word = Waiting (count i);

@@ -12,7 +12,7 @@ use Rattle.text.proofs.Laws.{sets-append}
 use Rattle.wire.proofs.Suits.{length-front}
 use Rattle.wire.specs.Frame.{Message}
 use Rattle.wire.specs.Places.{front, dataCount}
-use Rattle.wire.specs.declared.Kind.the-variants.{Answer}
+use Rattle.wire.specs.declared.Way.the-variants.{ToTill}
 use Rattle.reader.specs.Reading.{Place, outside, inside, Event, nothing, brokenFrame, heard, atLast, read}
 use Rattle.reader.specs.Fields.{placeOf, readerOf, keptIn}
 use Rattle.reader.specs.declared.Reader.{Reader}
@@ -46,10 +46,10 @@ place-bytes r array sum bytes = go (r .inside)
     go true e = cc
     go false e = let z : _≡_ {A = ℕ} 0 1 = cc in absurd (omega arith)
 
-whole-size : (bytes : List ℕ) → atLast Answer bytes ≡ true → length bytes ≡ dataCount Answer (getD bytes 0 0) + 15
+whole-size : (bytes : List ℕ) → atLast ToTill bytes ≡ true → length bytes ≡ dataCount ToTill (getD bytes 0 0) + 15
 whole-size [] e = absurd (false≢true e)
 whole-size (len ∷ bytes) e =
-    omega (arith, eqb-true (length bytes) (length (front Answer (dataCount Answer len)) + 4) e, length-front Answer (dataCount Answer len))
+    omega (arith, eqb-true (length bytes) (length (front ToTill (dataCount ToTill len)) + 4) e, length-front ToTill (dataCount ToTill len))
 
 -- a whole answer, as it stands in the array
 pub record Stands (answer : List ℕ) (m : Message) : Type 0 where
@@ -58,10 +58,10 @@ pub record Stands (answer : List ℕ) (m : Message) : Type 0 where
   pub status : m .status ≡ take 6 (drop (4 + length (m .content)) answer)
 
 pub stands : (r : Reader) (answer : List ℕ) (b : ℕ) (m : Message) → length answer ≡ 256 → r .count < 256
-    → read Answer (placeOf r answer) b .event ≡ heard m → Stands answer m
+    → read ToTill (placeOf r answer) b .event ≡ heard m → Stands answer m
 stands r answer b m size fits e =
-    let f = heard-from Answer (placeOf r answer) b m e in
-    let n : ℕ = dataCount Answer (getD (f .bytes) 0 0) in
+    let f = heard-from ToTill (placeOf r answer) b m e in
+    let n : ℕ = dataCount ToTill (getD (f .bytes) 0 0) in
     let is : f .bytes ≡ take (r .count) answer = place-bytes r answer (f .sum) (f .bytes) (f .was) in
     let long : length (f .bytes) ≡ r .count = ap length is ∙ length-take-le (r .count) answer (omega arith) in
     let whole : length (f .bytes) ≡ n + 15 = whole-size (f .bytes) (f .last) in
@@ -146,25 +146,25 @@ module _ (next : ℕ) (a : Attempt) (frame answer : List ℕ) (b : ℕ) where
   turn means = onMeaning next (a .seq) (a .code) (take (a .count) frame) (a .tries) means
 
   pub hear-nak : nakOutside at b ≡ true → heardBy next a frame answer b ≡ failedBy next a frame
-  hear-nak e = ap (λ s. turn (cond s failed (readAs (a .seq) (a .code) b after (read Answer at b .event)))) e
+  hear-nak e = ap (λ s. turn (cond s failed (readAs (a .seq) (a .code) b after (read ToTill at b .event)))) e
 
-  hear-by : nakOutside at b ≡ false → (e : Event) → read Answer at b .event ≡ e
+  hear-by : nakOutside at b ≡ false → (e : Event) → read ToTill at b .event ≡ e
       → heardBy next a frame answer b ≡ turn (readAs (a .seq) (a .code) b after e)
   hear-by n e h =
-      ap (λ s. turn (cond s failed (readAs (a .seq) (a .code) b after (read Answer at b .event)))) n
+      ap (λ s. turn (cond s failed (readAs (a .seq) (a .code) b after (read ToTill at b .event)))) n
       ∙ ap (λ z. turn (readAs (a .seq) (a .code) b after z)) h
 
   module _ (n : nakOutside at b ≡ false) where
-    pub hear-nothing : read Answer at b .event ≡ nothing → heardBy next a frame answer b ≡ turn (goesOn after)
+    pub hear-nothing : read ToTill at b .event ≡ nothing → heardBy next a frame answer b ≡ turn (goesOn after)
     hear-nothing h = hear-by n nothing h
 
-    pub hear-anew : read Answer at b .event ≡ brokenFrame → b ≡ 0x01 → heardBy next a frame answer b ≡ turn (goesOn after)
+    pub hear-anew : read ToTill at b .event ≡ brokenFrame → b ≡ 0x01 → heardBy next a frame answer b ≡ turn (goesOn after)
     hear-anew h e = hear-by n brokenFrame h ∙ ap (λ s. turn (cond s (goesOn after) failed)) (eq-eqb b 0x01 e)
 
-    pub hear-broken : read Answer at b .event ≡ brokenFrame → (b ≡ 0x01 → ⊥) → heardBy next a frame answer b ≡ failedBy next a frame
+    pub hear-broken : read ToTill at b .event ≡ brokenFrame → (b ≡ 0x01 → ⊥) → heardBy next a frame answer b ≡ failedBy next a frame
     hear-broken h e = hear-by n brokenFrame h ∙ ap (λ s. turn (cond s (goesOn after) failed)) (ne-eqb b 0x01 e)
 
-    module _ (m : Message) (h : read Answer at b .event ≡ heard m) where
+    module _ (m : Message) (h : read ToTill at b .event ≡ heard m) where
       abbrev by-tests : Bool → Bool → Turn
       by-tests s c = turn (cond (s && c) (answers m) failed)
 

@@ -6,7 +6,7 @@ use lib.Dec.{eqb, ltb}
 use lib.ListN.{length}
 use Rattle.wire.specs.Frame.{Message, commandOf, frame, sendable}
 use Rattle.wire.specs.Replies.{room}
-use Rattle.wire.specs.declared.Kind.the-variants.{Command, Answer}
+use Rattle.wire.specs.declared.Way.the-variants.{ToDevice, ToTill}
 use Rattle.reader.specs.Reading.{Place, outside, inside, Event, nothing, brokenFrame, heard, read}
 use Rattle.till.specs.declared.Word.{Word}
 use Rattle.till.specs.declared.Word.the-variants.{Idle, Waiting, SendAgain, Answered, Unfinished, TooShort, NotSent}
@@ -77,11 +77,11 @@ nakOutside (inside sum bytes) b = false
 
 -- PROTOCOL 7.5: bytes are read as answers, by 1.7 to 1.9
 abbrev pub earAfter : Ear → ℕ → Ear
-earAfter ear b = record { place = read Answer (ear .place) b .place }
+earAfter ear b = record { place = read ToTill (ear .place) b .place }
 
 abbrev pub byteMeans : (seq code : ℕ) → Ear → ℕ → Meaning
 byteMeans seq code ear b =
-    cond (nakOutside (ear .place) b) failed (readAs seq code b (earAfter ear b) (read Answer (ear .place) b .event))
+    cond (nakOutside (ear .place) b) failed (readAs seq code b (earAfter ear b) (read ToTill (ear .place) b .event))
 
 -- PROTOCOL 7.6: before the fifth, Send again with the same frame, and reading begins afresh; the fifth says Unfinished with the number of tries, and the
 -- command is given up. PROTOCOL 8.7: tries above five, which no history reaches, count as the fifth.
@@ -109,12 +109,12 @@ onTimeout s (waits seq code bytes tries ear) = onMeaning (s .next) seq code byte
 -- PROTOCOL 7.2: a command taken says Waiting with its frame, which is its first try; it cannot be sent (8) while another one waits, or where CMD or data may
 -- not stand in a frame
 abbrev pub sent : ℕ → Message → Turn
-sent next m = gives Waiting (frame Command m) (record { next = seqAfter next; pending = waits (m .seq) (m .code) (frame Command m) 1 freshEar })
+sent next m = gives Waiting (frame ToDevice m) (record { next = seqAfter next; pending = waits (m .seq) (m .code) (frame ToDevice m) 1 freshEar })
 
 abbrev pub onCommand : State → Pending → ℕ → List ℕ → Turn
 onCommand s idle code content =
     let m = commandOf (s .next) code content in
-    cond (sendable Command m) (sent (s .next) m) (stays NotSent s)
+    cond (sendable ToDevice m) (sent (s .next) m) (stays NotSent s)
 onCommand s (waits seq sentCode bytes tries ear) code content = stays NotSent s
 
 -- PROTOCOL 7.1: the three events
@@ -125,4 +125,4 @@ takes s timeout = onTimeout s (s .pending)
 
 -- PROTOCOL 2.4: with less than 210 bytes lent it is 7 before anything else is looked at, and the event is not taken
 abbrev pub hears : (lent : ℕ) → State → Happening → Turn
-hears lent s h = cond (ltb lent (room Command)) (stays TooShort s) (takes s h)
+hears lent s h = cond (ltb lent (room ToDevice)) (stays TooShort s) (takes s h)

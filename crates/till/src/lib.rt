@@ -1,8 +1,10 @@
 // The till end: it hands out command frames, hears the device's bytes, and gives a command up after five tries (PROTOCOL chapter 7).
+use reader::FRAME_ROOM;
 use reader::Heard;
 use reader::Reader;
 use wire::Built;
-use wire::Kind;
+use wire::COMMAND_ROOM;
+use wire::Way;
 ghost use mathlib.Core.Path.{_≡_};
 ghost use mathlib.Core.Bool.{false, cond};
 ghost use mathlib.Core.List.{List, _++_};
@@ -19,12 +21,6 @@ ghost use Rattle.till.specs.declared.Word.the-variants.{Waiting, Answere
 
 // PROTOCOL 7.6: as often as a frame is handed out at most.
 pub const MOST_TRIES: u8 = 5;
-
-// PROTOCOL 2.4: as many bytes as the caller lends at least: the longest frame that the till end builds.
-pub const LEAST_LENT: usize = 210;
-
-// PROTOCOL 1.2: any frame has room here, of a command or of an answer, and its bytes are counted in one byte.
-pub const FRAME_ROOM: usize = 256;
 
 // PROTOCOL 7.3: the SEQ of the first command.
 const FIRST_SEQ: u8 = 0x20;
@@ -127,7 +123,7 @@ pub fn command(
     ensures { λ r. ⌜ ((answer : List ℕ) → now (frame .exit) ≡ framed (now (frame .entry)) (turnOf till (now (frame .entry)) answer (now (buf .entry)) (command code (now (content .entry))) .state .pending)) ⌝ }
     ensures { λ r. ⌜ ((answer : List ℕ) → now (buf .exit) ≡ sets (now (buf .entry)) 0 (turnOf till (now (frame .entry)) answer (now (buf .entry)) (command code (now (content .entry))) .puts)) ⌝ }
 {
-    if buf.len() < LEAST_LENT {
+    if buf.len() < COMMAND_ROOM {
         return Said {
             till,
             word: Word::TooShort,
@@ -234,7 +230,7 @@ pub fn byte(
     ensures { λ r. ⌜ now (answer .exit) ≡ heldIn (now (answer .entry)) (turnOf till (now (frame .entry)) (now (answer .entry)) (now (buf .entry)) (byte b) .state .pending) ⌝ }
     ensures { λ r. ⌜ now (buf .exit) ≡ sets (now (buf .entry)) 0 (turnOf till (now (frame .entry)) (now (answer .entry)) (now (buf .entry)) (byte b) .puts) ⌝ }
 {
-    if buf.len() < LEAST_LENT {
+    if buf.len() < COMMAND_ROOM {
         return Said {
             till,
             word: Word::TooShort,
@@ -269,7 +265,7 @@ fn hear(
     if nak_outside(reader.inside, b) {
         return failed_try(next, a, frame, buf);
     }
-    let taken = reader::take_byte(Kind::Answer, reader, answer, b);
+    let taken = reader::take_byte(Way::ToTill, reader, answer, b);
     let reader = taken.reader;
     let after = Ear { reader };
     let heard = taken.heard;
@@ -359,7 +355,7 @@ pub fn timeout(till: Till, frame: &[u8; FRAME_ROOM], buf: &mut [u8]) -> Said
     ensures { λ r. ⌜ ((answer : List ℕ) → r ≡ saidOf till (turnOf till (now (frame .entry)) answer (now (buf .entry)) timeout)) ⌝ }
     ensures { λ r. ⌜ ((answer : List ℕ) → now (buf .exit) ≡ sets (now (buf .entry)) 0 (turnOf till (now (frame .entry)) answer (now (buf .entry)) timeout .puts)) ⌝ }
 {
-    if buf.len() < LEAST_LENT {
+    if buf.len() < COMMAND_ROOM {
         return Said {
             till,
             word: Word::TooShort,

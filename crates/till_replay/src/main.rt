@@ -3,6 +3,7 @@
 use libc::STDERR_FILENO;
 use libc::STDIN_FILENO;
 use libc::STDOUT_FILENO;
+use reader::FRAME_ROOM;
 use till::Said;
 use till::Till;
 use till::Word;
@@ -16,10 +17,10 @@ struct Told {
 
 // Events are read one by one to the end of the input.
 fn main() {
-    let mut frame = [0u8; 256];
-    let mut answer = [0u8; 256];
+    let mut frame = [0u8; FRAME_ROOM];
+    let mut answer = [0u8; FRAME_ROOM];
     let mut event = [0u8; 259];
-    let mut buf = [0u8; 256];
+    let mut buf = [0u8; FRAME_ROOM];
     let mut till = till::fresh();
     let mut events: u64 = 0;
     while events < 0xFFFFFFFFFFFFFFFF {
@@ -103,8 +104,8 @@ fn wide(b: u8) -> usize
 // One event, its first n bytes. What is lent is the front of the buffer.
 fn tell(
     till: Till,
-    frame: &mut [u8; 256],
-    answer: &mut [u8; 256],
+    frame: &mut [u8; FRAME_ROOM],
+    answer: &mut [u8; FRAME_ROOM],
     event: &[u8],
     n: usize,
     buf: &mut [u8],
@@ -131,8 +132,8 @@ fn so_far(till: Till, written: bool) -> Told {
 
 fn happen(
     till: Till,
-    frame: &mut [u8; 256],
-    answer: &mut [u8; 256],
+    frame: &mut [u8; FRAME_ROOM],
+    answer: &mut [u8; FRAME_ROOM],
     s: &[u8],
     buf: &mut [u8],
 ) -> Said {

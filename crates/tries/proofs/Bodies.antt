@@ -10,22 +10,22 @@ use lib.ListN.{length, length-append}
 use borrow.Author.Tests.{eqb-true, leb-true}
 use Rattle.wire.specs.Bytes.{within, mayStand, every}
 use Rattle.wire.specs.Frame.{Message, total, bcc, hexadecimal, inner, counted, sendable}
-use Rattle.wire.specs.declared.Kind.{Kind}
-use Rattle.wire.specs.declared.Kind.the-variants.{Command, Answer}
-use Rattle.wire.specs.declared.Sort.the-variants.{Mark, Data, Status}
+use Rattle.wire.specs.declared.Way.{Way}
+use Rattle.wire.specs.declared.Way.the-variants.{ToDevice, ToTill}
+use Rattle.wire.specs.declared.Role.the-variants.{Name, Data, Status}
 use Rattle.text.proofs.Laws.{empty}
 use Rattle.wire.proofs.Suits.{both, behind-small}
 use Rattle.reader.proofs.RoundTrip.{Parts, parts, length-inner}
 use Rattle.tries.proofs.Lists.{Free, free-join, free-test, free-every, only-last, cut-same, total-join, OneOff, InFirst, InSecond, off-back, off-length, off-total, off-same, off-parts, off-some, overlap, last-of, snoc-same}
 
 -- LEN to 05h, their BCC, and all that stands behind 01h
-abbrev pub core : Kind → Message → List ℕ
+abbrev pub core : Way → Message → List ℕ
 core k m = counted (m .seq) (m .code) (inner k m)
 
-abbrev pub check : Kind → Message → List ℕ
+abbrev pub check : Way → Message → List ℕ
 check k m = bcc (total (core k m))
 
-abbrev pub body : Kind → Message → List ℕ
+abbrev pub body : Way → Message → List ℕ
 body k m = core k m ++ check k m ++ 0x03 ∷ []
 
 -- bounds
@@ -47,9 +47,9 @@ total-most t most (x ∷ xs) e =
     omega (arith, most x (two .0), total-most t most xs (two .1))
 
 -- of what stands between CMD and 05h
-inner-most : (k : Kind) (m : Message) → Parts k m → total (inner k m) ≤ 255 * 207
-inner-most Command m h = omega (arith, total-most (mayStand Data) data-most (m .content) (h .content), h .few)
-inner-most Answer m h =
+inner-most : (k : Way) (m : Message) → Parts k m → total (inner k m) ≤ 255 * 207
+inner-most ToDevice m h = omega (arith, total-most (mayStand Data) data-most (m .content) (h .content), h .few)
+inner-most ToTill m h =
     omega (
       arith,
       total-join (m .content) (0x04 ∷ m .status),
@@ -60,9 +60,9 @@ inner-most Answer m h =
     )
 
 -- a byte that may not stand there
-inner-free : (v : ℕ) → mayStand Data v ≡ false → mayStand Status v ≡ false → v < 4 → (k : Kind) (m : Message) → Parts k m → Free v (inner k m)
-inner-free v data' state low Command m h = free-every v (mayStand Data) data' (m .content) (h .content)
-inner-free v data' state low Answer m h =
+inner-free : (v : ℕ) → mayStand Data v ≡ false → mayStand Status v ≡ false → v < 4 → (k : Way) (m : Message) → Parts k m → Free v (inner k m)
+inner-free v data' state low ToDevice m h = free-every v (mayStand Data) data' (m .content) (h .content)
+inner-free v data' state low ToTill m h =
     free-join v (m .content) (0x04 ∷ m .status) (free-every v (mayStand Data) data' (m .content) (h .content))
     (λ e. omega arith, free-every v (mayStand Status) state (m .status) (h .status))
 
@@ -99,19 +99,19 @@ bcc-same s t hs ht e =
     let d : hexadecimal s ≡ hexadecimal t = head-eq-of-cons-eq (tail-eq-of-cons-eq e2) in
     digits-same s t hs ht (hex-same (s / 4096) (t / 4096) a) (hex-same (s / 256) (t / 256) b) (hex-same (s / 16) (t / 16) c) (hex-same s t d)
 
-module _ (k : Kind) (m : Message) (can : sendable k m ≡ true) where
+module _ (k : Way) (m : Message) (can : sendable k m ≡ true) where
   h : Parts k m
   h = parts k m can
 
   -- a byte that may not stand in data and is no digit, before 03h
-  free : (v : ℕ) → mayStand Mark v ≡ false → mayStand Data v ≡ false → mayStand Status v ≡ false → v < 4 → Free v (core k m ++ check k m)
+  free : (v : ℕ) → mayStand Name v ≡ false → mayStand Data v ≡ false → mayStand Status v ≡ false → v < 4 → Free v (core k m ++ check k m)
   free v mark data' state low =
       free-join v (core k m) (check k m) (
         λ e. omega arith,
         (
-          free-test v (mayStand Mark) mark (m .seq) (h .seq),
+          free-test v (mayStand Name) mark (m .seq) (h .seq),
           (
-            free-test v (mayStand Mark) mark (m .code) (h .code),
+            free-test v (mayStand Name) mark (m .code) (h .code),
             free-join v (inner k m) (0x05 ∷ []) (inner-free v data' state low k m h) (λ e. omega arith, tt),
           ),
         ),
@@ -139,7 +139,7 @@ module _ (k : Kind) (m : Message) (can : sendable k m ≡ true) where
       omega (arith, total-join (inner k m) (0x05 ∷ []), inner-most k m h, at-most 0x20 (m .seq) (h .seq), at-most 0x20 (m .code) (h .code), length-inner k m h, h .few, behind-small k)
 
 -- two frames whose bytes behind 01h end alike
-module _ (k : Kind) (m n : Message) (cm : sendable k m ≡ true) (cn : sendable k n ≡ true) where
+module _ (k : Way) (m n : Message) (cm : sendable k m ≡ true) (cn : sendable k n ≡ true) where
   checks-same : check k m ≡ check k n → total (core k m) ≡ total (core k n)
   checks-same = bcc-same (total (core k m)) (total (core k n)) (total-small k m cm) (total-small k n cn)
 
@@ -217,7 +217,7 @@ module _ (k : Kind) (m n : Message) (cm : sendable k m ≡ true) (cn : sendable 
       front-off c = ⊎-elim (before-03 (c .other) (c .is)) (at-03 (c .other) (c .is)) (off-parts (core k n ++ check k n) (0x03 ∷ []) (c .off) refl)
 
 -- a proper beginning of one, a byte, and another: one stands there only where the byte is the 03h that the beginning lacked
-module _ (k : Kind) (m old n : Message) (cm : sendable k m ≡ true) (co : sendable k old ≡ true) (cn : sendable k n ≡ true)
+module _ (k : Way) (m old n : Message) (cm : sendable k m ≡ true) (co : sendable k old ≡ true) (cn : sendable k n ≡ true)
     (u : List ℕ) (y : ℕ) (v : List ℕ) (begun : body k old ≡ u ++ y ∷ v) where
   not-within : (w : List ℕ) → u ≡ body k n ++ w → ⊥
   not-within w e =

@@ -9,9 +9,9 @@ use borrow.Author.Tests.{eq-eqb, ne-eqb}
 use Rattle.wire.specs.Bytes.{mayStand}
 use Rattle.wire.specs.Frame.{Message, bcc, hexadecimal, sendable}
 use Rattle.wire.specs.Places.{is, none, behindData, front, dataCount}
-use Rattle.wire.specs.declared.Kind.{Kind}
-use Rattle.wire.specs.declared.Kind.the-variants.{Command, Answer}
-use Rattle.wire.specs.declared.Sort.the-variants.{Data, Status}
+use Rattle.wire.specs.declared.Way.{Way}
+use Rattle.wire.specs.declared.Way.the-variants.{ToDevice, ToTill}
+use Rattle.wire.specs.declared.Role.the-variants.{Data, Status}
 use Rattle.reader.specs.Reading.{Place, outside, inside, Event, nothing, brokenFrame, heard, Read, read, readOther, message, suits, atLast, grown, Run, run}
 use Rattle.reader.proofs.Steps.{reads-broken, reads-more, reads-whole, read-other}
 use Rattle.reader.proofs.Walking.{run-first, run-append}
@@ -51,7 +51,7 @@ silent-broken m e = let z : _≡_ {A = ℕ} 0 1 = cc in omega arith
 not-outside : (sum : ℕ) (bytes : List ℕ) → inside sum bytes ≡ outside → ⊥
 not-outside sum bytes e = let z : _≡_ {A = ℕ} 0 1 = cc in omega arith
 
-module _ (k : Kind) where
+module _ (k : Way) where
   -- outside, what holds no 01h is skipped
   pub skipped : (bs : List ℕ) → Free 0x01 bs → run k outside bs ≡ record { place = outside; events = replicate (length bs) nothing }
   skipped [] f = refl
@@ -162,11 +162,11 @@ refuse-at v (u ∷ ts) t r (suc i) e = ap suc (refuse-at v ts t (r .1) i e)
 refuse-hex : (n : ℕ) → is (hexadecimal n) 0x03 ≡ false
 refuse-hex n = ne-eqb 0x03 (hexadecimal n) (λ e. omega arith)
 
-refuse-behind : (k : Kind) → Refuse 0x03 (behindData k)
-refuse-behind Command = tt
-refuse-behind Answer = (refl, refuse-run 0x03 6 (mayStand Status) refl)
+refuse-behind : (k : Way) → Refuse 0x03 (behindData k)
+refuse-behind ToDevice = tt
+refuse-behind ToTill = (refl, refuse-run 0x03 6 (mayStand Status) refl)
 
-module _ (k : Kind) where
+module _ (k : Way) where
   refuse-03 : (n sum : ℕ) → Refuse 0x03 (front k n ++ map is (bcc sum))
   refuse-03 n sum =
       refuse-join 0x03 (front k n) (map is (bcc sum)) (
@@ -182,9 +182,9 @@ module _ (k : Kind) where
   last-suits : (sum : ℕ) (bytes : List ℕ) → suits k sum bytes 0x03 ≡ true → atLast k bytes ≡ true
   last-suits sum [] e = absurd (false≢true (sym (len-not-03 k) ∙ e))
     where
-      len-not-03 : (j : Kind) → suits j sum [] 0x03 ≡ false
-      len-not-03 Command = refl
-      len-not-03 Answer = refl
+      len-not-03 : (j : Way) → suits j sum [] 0x03 ≡ false
+      len-not-03 ToDevice = refl
+      len-not-03 ToTill = refl
   last-suits sum (len ∷ r) e =
       let tests : List (ℕ → Bool) = front k (dataCount k len) in
       let seam = ap (λ (z : List (ℕ → Bool)). getD z (length r) none 0x03) (append-assoc tests (map is (bcc sum)) (is 0x03 ∷ [])) in

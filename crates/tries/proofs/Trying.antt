@@ -9,7 +9,7 @@ use lib.ListN.{length, getD, set, take, drop, replicate, length-append, length-d
 use lib.Seq.{split-at, set-split, set-append-left, set-at, drop-append-le}
 use borrow.Author.Tests.{eqb-true, eqb-false, eq-eqb, ltb-true, ltb-false, lt-ltb, le-ltb, ne-eqb, not-true}
 use Rattle.wire.specs.Frame.{Message, inner, frame, sendable}
-use Rattle.wire.specs.declared.Kind.{Kind}
+use Rattle.wire.specs.declared.Way.{Way}
 use Rattle.wire.proofs.Suits.{both}
 use Rattle.reader.specs.Reading.{Place, outside, inside, Event, nothing, brokenFrame, heard, read, startsAnew, Run, run}
 use Rattle.reader.proofs.Walking.{run-first, run-append}
@@ -21,11 +21,11 @@ use Rattle.tries.proofs.Bodies.{core, check, body, no-01, length-body, 
 use Rattle.tries.proofs.Hearing.{news-join, news-quiet, NoneHeard, skipped, place-snoc, none-from, none-heard, stays-inside, breaks-once, after-03, after-last}
 
 -- 03h at the end
-ends-outside : (k : Kind) (p : Place) (xs : List ℕ) → run k p (xs ++ 0x03 ∷ []) .place ≡ outside
+ends-outside : (k : Way) (p : Place) (xs : List ℕ) → run k p (xs ++ 0x03 ∷ []) .place ≡ outside
 ends-outside k p xs = place-snoc k p xs 0x03 ∙ after-03 k (run k p xs .place)
 
 -- a frame behind its 01h
-module _ (k : Kind) (m : Message) (can : sendable k m ≡ true) where
+module _ (k : Way) (m : Message) (can : sendable k m ≡ true) where
   abbrev start : List ℕ
   start = core k m ++ check k m
 
@@ -61,7 +61,7 @@ module _ (k : Kind) (m : Message) (can : sendable k m ≡ true) where
     place-left = stays-inside k left left-free 0 [] (quiet-left .0) (quiet-left .1)
 
 -- 01h, from what stands begun
-start-brings : (k : Kind) (b : Begun) → Fits k b → news (startsAnew (standsAt k b) ∷ []) ≡ startBrings b
+start-brings : (k : Way) (b : Begun) → Fits k b → news (startsAnew (standsAt k b) ∷ []) ≡ startBrings b
 start-brings k clear f = refl
 start-brings k (begun n zero) f = absurd (omega (arith, f .1))
 start-brings k (begun n (suc zero)) f = refl
@@ -69,13 +69,13 @@ start-brings k (begun n (suc (suc c))) f =
     let place = place-left k n (f .0) (take (suc c) (body k n)) _ _ (split-at (body k n) (suc c) 0 (omega (arith, f .2))) in
     ap (λ p. news (startsAnew p ∷ [])) (place .1) ∙ ap (λ t. cond t (brokenFrame ∷ []) []) (sym (lt-ltb 1 (suc (suc c)) (omega arith)))
 
-first-brings : (k : Kind) (b : Begun) → Fits k b → (xs : List ℕ) → news (run k (standsAt k b) (0x01 ∷ xs) .events) ≡ startBrings b ++ news (run k (inside 0 []) xs .events)
+first-brings : (k : Way) (b : Begun) → Fits k b → (xs : List ℕ) → news (run k (standsAt k b) (0x01 ∷ xs) .events) ≡ startBrings b ++ news (run k (inside 0 []) xs .events)
 first-brings k b f xs =
     news-join (startsAnew (standsAt k b) ∷ []) (run k (inside 0 []) xs .events)
     ∙ ap (λ z. z ++ news (run k (inside 0 []) xs .events)) (start-brings k b f)
 
 -- a byte behind 01h was replaced
-module _ (k : Kind) (m : Message) (can : sendable k m ≡ true) (i byte : ℕ) (h : i < length (body k m)) (ne : byte ≡ getD (body k m) i 0 → ⊥) where
+module _ (k : Way) (m : Message) (can : sendable k m ≡ true) (i byte : ℕ) (h : i < length (body k m)) (ne : byte ≡ getD (body k m) i 0 → ⊥) where
   abbrev left : List ℕ
   left = take i (body k m)
 
@@ -213,7 +213,7 @@ module _ (k : Kind) (m : Message) (can : sendable k m ≡ true) (i byte : ℕ) (
           (ap (λ (r : Run). r .place) (parts anew) ∙ news-right anew false (early-or-last false eu) .0, (can, omega arith, omega (arith, length-body k m can))))
 
 -- 01h itself was replaced, and a frame stands begun
-module _ (k : Kind) (m n : Message) (cm : sendable k m ≡ true) (cn : sendable k n ≡ true) (c : ℕ) (h : suc c < length (frame k n)) (x : ℕ) (ne : x ≡ 0x01 → ⊥) where
+module _ (k : Way) (m n : Message) (cm : sendable k m ≡ true) (cn : sendable k n ≡ true) (c : ℕ) (h : suc c < length (frame k n)) (x : ℕ) (ne : x ≡ 0x01 → ⊥) where
   abbrev pub ahead : List ℕ
   ahead = take c (body k n)
 
@@ -263,7 +263,7 @@ module _ (k : Kind) (m n : Message) (cm : sendable k m ≡ true) (cn : sendable 
         ∙ breaks-once k (x ∷ body k m) skip-free (at .0) ahead (subst (λ p. NoneHeard (run k p (x ∷ body k m) .events)) (at .1) none-joined)
         (ap (λ p. run k p (x ∷ body k m) .place) (sym (at .1)) ∙ place-after)
 
-module _ (k : Kind) (m : Message) (can : sendable k m ≡ true) where
+module _ (k : Way) (m : Message) (can : sendable k m ≡ true) where
   whole-read : (b : Begun) → Fits k b → TryRead k b m whole
   whole-read b f = record {
     news-are = first-brings k b f (body k m)

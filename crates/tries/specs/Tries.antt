@@ -5,7 +5,7 @@ use mathlib.Core.List.{List, [], _∷_, _++_}
 use lib.Dec.{ltb, eqb}
 use lib.ListN.{length, getD, set, take}
 use Rattle.wire.specs.Frame.{Message, frame}
-use Rattle.wire.specs.declared.Kind.{Kind}
+use Rattle.wire.specs.declared.Way.{Way}
 use Rattle.reader.specs.Reading.{Event, brokenFrame, heard}
 
 -- PROTOCOL 9.1: whole, or with one byte replaced, or cut short; never two of these. The other byte may be any number: nothing rests on its
@@ -33,7 +33,7 @@ pub data Begun : Type 0 where
   begun : (m : Message) (count : ℕ) → Begun
 
 -- PROTOCOL 9.2: what a try leaves begun. One of which nothing arrives leaves what it found; a last byte that has become 01h begins a frame.
-abbrev pub leaves : Kind → Begun → Message → Arrival → Begun
+abbrev pub leaves : Way → Begun → Message → Arrival → Begun
 leaves k b m whole = clear
 leaves k b m (replaced at byte) = cond (eqb byte 0x01 && eqb (at + 1) (length (frame k m))) (begun m 1) clear
 leaves k b m (cut zero) = b
@@ -46,7 +46,7 @@ startBrings (begun n count) = cond (ltb 1 count) (brokenFrame ∷ []) []
 
 -- PROTOCOL 9.4, 9.5: a try whose 01h has become another byte. With nothing begun it is skipped; what was begun is broken, once, unless the
 -- byte is the 03h that this frame still lacked.
-abbrev pub lostStartBrings : Kind → Begun → ℕ → List Event
+abbrev pub lostStartBrings : Way → Begun → ℕ → List Event
 lostStartBrings k clear byte = []
 lostStartBrings k (begun n count) byte = cond (eqb byte 0x03 && eqb (count + 1) (length (frame k n))) (heard n ∷ []) (brokenFrame ∷ [])
 
@@ -56,7 +56,7 @@ abbrev pub damageBrings : ℕ → ℕ → ℕ → List Event
 damageBrings size at byte = cond (eqb byte 0x01 && (ltb 1 at && ltb (at + 1) size)) (brokenFrame ∷ brokenFrame ∷ []) (brokenFrame ∷ [])
 
 -- PROTOCOL 9.4: all that a try brings: broken frames, and a message heard
-abbrev pub brings : Kind → Begun → Message → Arrival → List Event
+abbrev pub brings : Way → Begun → Message → Arrival → List Event
 brings k b m whole = startBrings b ++ heard m ∷ []
 brings k b m (replaced zero byte) = lostStartBrings k b byte
 brings k b m (replaced (suc i) byte) = startBrings b ++ damageBrings (length (frame k m)) (suc i) byte

@@ -14,9 +14,9 @@ use Rattle.wire.proofs.Suits.{both, &&-true, &&-false}
 use Rattle.wire.specs.Bytes.{mayStand, every}
 use Rattle.wire.specs.Frame.{Message, commandOf, answerOf, total, bcc, hexadecimal, counted, enclosed, frame, sendable, carriable}
 use Rattle.wire.specs.Replies.{room, building, sealing}
-use Rattle.wire.specs.declared.Kind.{Kind}
-use Rattle.wire.specs.declared.Kind.the-variants.{Command, Answer}
-use Rattle.wire.specs.declared.Sort.the-variants.{Mark, Data, Status}
+use Rattle.wire.specs.declared.Way.{Way}
+use Rattle.wire.specs.declared.Way.the-variants.{ToDevice, ToTill}
+use Rattle.wire.specs.declared.Role.the-variants.{Name, Data, Status}
 
 -- the sum of a part, from the front on
 pub sum-turn : (xs : List ℕ) (i sum : ℕ) → i < length xs
@@ -143,29 +143,29 @@ finishing l status n seq code room six b1 b2 e e1 e2 ee =
 
 pub carriable-short : (seq code : ℕ) (content : List ℕ) → carriable seq code content ≡ true → length content ≤ 200
 carriable-short seq code content e =
-    leb-true (length content) 200 (both (mayStand Mark seq && mayStand Mark code) (leb (length content) 200) (both _ (every (mayStand Data) content) e .0) .1)
+    leb-true (length content) 200 (both (mayStand Name seq && mayStand Name code) (leb (length content) 200) (both _ (every (mayStand Data) content) e .0) .1)
 
 -- a command has no status, so it can be sent when its data can
 pub sendable-command : (seq code : ℕ) (content : List ℕ)
-    → sendable Command (commandOf seq code content) ≡ carriable seq code content
+    → sendable ToDevice (commandOf seq code content) ≡ carriable seq code content
 sendable-command seq code content = rw (&&-true (carriable seq code content && true), &&-true (carriable seq code content))
 
 pub sendable-answer : (seq code : ℕ) (content status : List ℕ) → length status ≡ 6 → carriable seq code content ≡ true → every (mayStand Status) status ≡ true
-    → sendable Answer (answerOf seq code content status) ≡ true
+    → sendable ToTill (answerOf seq code content status) ≡ true
 sendable-answer seq code content status six e s = rw (e, six, s)
 
 -- why a message can't be sent
-pub not-carried : (k : Kind) (m : Message) → carriable (m .seq) (m .code) (m .content) ≡ false → sendable k m ≡ false
+pub not-carried : (k : Way) (m : Message) → carriable (m .seq) (m .code) (m .content) ≡ false → sendable k m ≡ false
 not-carried k m e = rw e
 
-pub no-status : (k : Kind) (m : Message) → every (mayStand Status) (m .status) ≡ false → sendable k m ≡ false
+pub no-status : (k : Way) (m : Message) → every (mayStand Status) (m .status) ≡ false → sendable k m ≡ false
 no-status k m e = rw (e, &&-false)
 
 pub too-long : (seq code : ℕ) (content : List ℕ) → 200 < length content → carriable seq code content ≡ false
 too-long seq code content h = rw (lt-leb (length content) 200 h, &&-false)
 
 -- what building answers
-module _ (k : Kind) (l : List ℕ) (m : Message) where
+module _ (k : Way) (l : List ℕ) (m : Message) where
   pub too-short : length l < room k → building k l m ≡ record { number = 7; count = 0; buffer = l }
   too-short h = rw (lt-ltb (length l) (room k) h)
 
@@ -185,5 +185,5 @@ module _ (l : List ℕ) (seq code n : ℕ) (status : List ℕ) where
 
   pub seal-done : 217 ≤ length l → n ≤ 200
       → sealing l seq code n status
-      ≡ record { number = 0; count = length (frame Answer (answerOf seq code (take n (drop 4 l)) status)); buffer = sets l 0 (frame Answer (answerOf seq code (take n (drop 4 l)) status)) }
+      ≡ record { number = 0; count = length (frame ToTill (answerOf seq code (take n (drop 4 l)) status)); buffer = sets l 0 (frame ToTill (answerOf seq code (take n (drop 4 l)) status)) }
   seal-done h k = rw (le-ltb (length l) 217 h, le-leb n 200 k)

@@ -13,9 +13,9 @@ use borrow.Author.Tests.{le-leb, ne-eqb}
 use Rattle.wire.specs.Bytes.{within, mayStand, mayStandInData, every}
 use Rattle.wire.specs.Frame.{bcc}
 use Rattle.wire.specs.Places.{behindData, front, ending, is, none}
-use Rattle.wire.specs.declared.Kind.{Kind}
-use Rattle.wire.specs.declared.Kind.the-variants.{Command, Answer}
-use Rattle.wire.specs.declared.Sort.the-variants.{Mark, Data, Status}
+use Rattle.wire.specs.declared.Way.{Way}
+use Rattle.wire.specs.declared.Way.the-variants.{ToDevice, ToTill}
+use Rattle.wire.specs.declared.Role.the-variants.{Name, Data, Status}
 
 pub &&-true : (a : Bool) → a && true ≡ a
 &&-true true = refl
@@ -54,45 +54,45 @@ module _ (test : ℕ → Bool) (xs : List ℕ) (i : ℕ) where
   pub every-done : length xs ≤ i → every test (drop i xs) ≡ true
   every-done h = rw (drop-of-length-le xs h)
 
-pub behind-small : (k : Kind) → length (behindData k) ≤ 7
-behind-small Command = omega arith
-behind-small Answer = omega arith
+pub behind-small : (k : Way) → length (behindData k) ≤ 7
+behind-small ToDevice = omega arith
+behind-small ToTill = omega arith
 
 -- behind the last test nothing suits
 pub out : (tests : List (ℕ → Bool)) (at b : ℕ) → length tests ≤ at → getD tests at none b ≡ false
 out tests at b h = ap (λ t. t b) (List·getD-eq-default tests none h)
 
 -- the places behind the data
-pub behind-out : (k : Kind) (at b : ℕ) → length (behindData k) < at → false ≡ getD (behindData k ++ is 0x05 ∷ []) at none b
+pub behind-out : (k : Way) (at b : ℕ) → length (behindData k) < at → false ≡ getD (behindData k ++ is 0x05 ∷ []) at none b
 behind-out k at b h = sym (out (behindData k ++ is 0x05 ∷ []) at b (simp length-append (omega arith)))
 
-pub behind-end : (k : Kind) (at b : ℕ) → at ≡ length (behindData k) → eqb b 0x05 ≡ getD (behindData k ++ is 0x05 ∷ []) at none b
+pub behind-end : (k : Way) (at b : ℕ) → at ≡ length (behindData k) → eqb b 0x05 ≡ getD (behindData k ++ is 0x05 ∷ []) at none b
 behind-end k at b e = rw (e, getD-append-seam (behindData k) (is 0x05) [] none)
 
-pub behind-first : (k : Kind) (at b : ℕ) → at < length (behindData k) → at ≡ 0 → eqb b 0x04 ≡ getD (behindData k ++ is 0x05 ∷ []) at none b
-behind-first Command at b h e = absurd (omega arith)
-behind-first Answer at b h e = rw e
+pub behind-first : (k : Way) (at b : ℕ) → at < length (behindData k) → at ≡ 0 → eqb b 0x04 ≡ getD (behindData k ++ is 0x05 ∷ []) at none b
+behind-first ToDevice at b h e = absurd (omega arith)
+behind-first ToTill at b h e = rw e
 
-pub behind-status : (k : Kind) (at b : ℕ) → at < length (behindData k) → (at ≡ 0 → ⊥) → mayStand Status b ≡ getD (behindData k ++ is 0x05 ∷ []) at none b
-behind-status Command at b h e = absurd (omega arith)
-behind-status Answer zero b h e = absurd (e refl)
-behind-status Answer (suc at) b h e =
+pub behind-status : (k : Way) (at b : ℕ) → at < length (behindData k) → (at ≡ 0 → ⊥) → mayStand Status b ≡ getD (behindData k ++ is 0x05 ∷ []) at none b
+behind-status ToDevice at b h e = absurd (omega arith)
+behind-status ToTill zero b h e = absurd (e refl)
+behind-status ToTill (suc at) b h e =
     let six : at < 6 = omega arith in
     sym (ap (λ t. t b) (List·getD-append (replicate 6 (mayStand Status)) (is 0x05 ∷ []) none at six ∙ getD-replicate 6 at (mayStand Status) none six))
 
 -- the places from SEQ to 05h
-pub length-front : (k : Kind) (n : ℕ) → length (front k n) ≡ 3 + n + length (behindData k)
+pub length-front : (k : Way) (n : ℕ) → length (front k n) ≡ 3 + n + length (behindData k)
 length-front k n =
     let a : length (replicate n (mayStand Data) ++ behindData k ++ is 0x05 ∷ []) ≡ n + length (behindData k) + 1 =
     simp (length-append, length-replicate) in
     omega arith
 
-pub front-mark : (k : Kind) (n at b : ℕ) → at < 2 → mayStand Mark b ≡ getD (front k n) at none b
+pub front-mark : (k : Way) (n at b : ℕ) → at < 2 → mayStand Name b ≡ getD (front k n) at none b
 front-mark k n zero b h = refl
 front-mark k n (suc zero) b h = refl
 front-mark k n (suc (suc at)) b h = absurd (omega arith)
 
-pub front-data : (k : Kind) (n at b : ℕ) → 2 ≤ at → at - 2 < n → mayStand Data b ≡ getD (front k n) at none b
+pub front-data : (k : Way) (n at b : ℕ) → 2 ≤ at → at - 2 < n → mayStand Data b ≡ getD (front k n) at none b
 front-data k n zero b g h = absurd (omega arith)
 front-data k n (suc zero) b g h = absurd (omega arith)
 front-data k n (suc (suc i)) b g h =
@@ -102,7 +102,7 @@ front-data k n (suc (suc i)) b g h =
     List·getD-append (replicate n (mayStand Data)) (behindData k ++ is 0x05 ∷ []) none i (omega (arith, length-replicate n (mayStand Data)))
     ∙ getD-replicate n i (mayStand Data) none inData)))
 
-pub front-behind : (k : Kind) (n at b : ℕ) → 2 ≤ at → n ≤ at - 2
+pub front-behind : (k : Way) (n at b : ℕ) → 2 ≤ at → n ≤ at - 2
     → getD (behindData k ++ is 0x05 ∷ []) (at - 2 - n) none b ≡ getD (front k n) at none b
 front-behind k n zero b g h = absurd (omega arith)
 front-behind k n (suc zero) b g h = absurd (omega arith)

@@ -3,8 +3,8 @@ use Prim.Native.Nat.{ℕ}
 use mathlib.Core.Bool.{Bool, true, _&&_, _||_}
 use mathlib.Core.List.{List, [], _∷_}
 use lib.Dec.{leb, eqb}
-use Rattle.wire.specs.declared.Sort.{Sort}
-use Rattle.wire.specs.declared.Sort.the-variants.{Mark, Data, Status}
+use Rattle.wire.specs.declared.Role.{Role}
+use Rattle.wire.specs.declared.Role.the-variants.{Name, Data, Status}
 
 -- from the lowest to the highest, both of them too
 abbrev pub within : ℕ → ℕ → ℕ → Bool
@@ -15,8 +15,8 @@ abbrev pub mayStandInData : ℕ → Bool
 mayStandInData b = eqb b 0x09 || eqb b 0x0A || within 0x20 0xFF b
 
 -- PROTOCOL 1.2: what SEQ and CMD, a data byte and a status byte can be (the upper bound: DECISIONS 3)
-abbrev pub mayStand : Sort → ℕ → Bool
-mayStand Mark b = within 0x20 0xFF b
+abbrev pub mayStand : Role → ℕ → Bool
+mayStand Name b = within 0x20 0xFF b
 mayStand Data b = mayStandInData b
 mayStand Status b = within 0x80 0xFF b
 

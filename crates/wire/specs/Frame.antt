@@ -5,9 +5,9 @@ use mathlib.Core.List.{List, [], _∷_, _++_}
 use lib.Dec.{leb, eqb}
 use lib.ListN.{length}
 use Rattle.wire.specs.Bytes.{mayStand, every}
-use Rattle.wire.specs.declared.Kind.{Kind}
-use Rattle.wire.specs.declared.Kind.the-variants.{Command, Answer}
-use Rattle.wire.specs.declared.Sort.the-variants.{Mark, Data, Status}
+use Rattle.wire.specs.declared.Way.{Way}
+use Rattle.wire.specs.declared.Way.the-variants.{ToDevice, ToTill}
+use Rattle.wire.specs.declared.Role.the-variants.{Name, Data, Status}
 
 -- PROTOCOL 1.2: SEQ, CMD and data. An answer has six status bytes besides, a command none.
 pub record Message : Type 0 where
@@ -35,9 +35,9 @@ abbrev pub bcc : ℕ → List ℕ
 bcc sum = hexadecimal (sum / 4096) ∷ hexadecimal (sum / 256) ∷ hexadecimal (sum / 16) ∷ hexadecimal sum ∷ []
 
 -- PROTOCOL 1.2: what stands between CMD and 05h: the data, and in an answer 04h and STATUS behind it
-abbrev pub inner : Kind → Message → List ℕ
-inner Command m = m .content
-inner Answer m = m .content ++ 0x04 ∷ m .status
+abbrev pub inner : Way → Message → List ℕ
+inner ToDevice m = m .content
+inner ToTill m = m .content ++ 0x04 ∷ m .status
 
 -- PROTOCOL 1.3: the bytes from LEN to 05h; LEN is their number plus 20h
 abbrev pub counted : ℕ → ℕ → List ℕ → List ℕ
@@ -48,21 +48,21 @@ abbrev pub enclosed : ℕ → ℕ → List ℕ → List ℕ
 enclosed seq code between = 0x01 ∷ counted seq code between ++ bcc (total (counted seq code between)) ++ 0x03 ∷ []
 
 -- PROTOCOL 1.2: the whole frame of a command or of an answer
-abbrev pub frame : Kind → Message → List ℕ
+abbrev pub frame : Way → Message → List ℕ
 frame k m = enclosed (m .seq) (m .code) (inner k m)
 
 -- PROTOCOL 1.2: how many status bytes a frame of each kind has
-abbrev pub statuses : Kind → ℕ
-statuses Command = 0
-statuses Answer = 6
+abbrev pub statuses : Way → ℕ
+statuses ToDevice = 0
+statuses ToTill = 6
 
 -- PROTOCOL 1.2, 7.2: SEQ, CMD and data that can be sent: all in their ranges, 200 data bytes at most
 abbrev pub carriable : ℕ → ℕ → List ℕ → Bool
 carriable seq code content =
-    mayStand Mark seq && mayStand Mark code && leb (length content) 200 && every (mayStand Data) content
+    mayStand Name seq && mayStand Name code && leb (length content) 200 && every (mayStand Data) content
 
 -- PROTOCOL 1.2: what can be sent: these, and as many status bytes as the kind has, each in its range (DECISIONS 6)
-abbrev pub sendable : Kind → Message → Bool
+abbrev pub sendable : Way → Message → Bool
 sendable k m =
     carriable (m .seq) (m .code) (m .content)
     && eqb (length (m .status)) (statuses k)

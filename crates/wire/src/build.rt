@@ -3,7 +3,7 @@ use crate::ANSWER_ROOM;
 use crate::Built;
 use crate::COMMAND_ROOM;
 use crate::MOST_DATA;
-use crate::Sort;
+use crate::Role;
 use crate::suit;
 ghost use mathlib.Core.Path.{_≡_};
 ghost use mathlib.Core.List.{_∷_, _++_};
@@ -12,11 +12,11 @@ ghost use lib.ListN.{length, take, drop};
 ghost use lib.Seq.{sets};
 ghost use Rattle.wire.specs.Frame.{commandOf, answerOf, carriable, enclosed, total};
 ghost use Rattle.wire.specs.Replies.{replyOf, building, sealing};
-ghost use Rattle.wire.specs.declared.Kind.the-variants.{Command, Answer};
+ghost use Rattle.wire.specs.declared.Way.the-variants.{ToDevice, ToTill};
 
 // A command frame at the front of the buffer.
 pub fn build_command(buf: &mut [u8], seq: u8, code: u8, content: &[u8]) -> Built
-    ensures { λ r. ⌜ replyOf r (now (buf .exit)) ≡ building Command (now (buf .entry)) (commandOf seq code (now (content .entry))) ⌝ }
+    ensures { λ r. ⌜ replyOf r (now (buf .exit)) ≡ building ToDevice (now (buf .entry)) (commandOf seq code (now (content .entry))) ⌝ }
 {
     if buf.len() < COMMAND_ROOM {
         return Built::Short;
@@ -30,7 +30,7 @@ pub fn build_command(buf: &mut [u8], seq: u8, code: u8, content: &[u8]) -> Built
 
 // An answer frame at the front of the buffer.
 pub fn build_answer(buf: &mut [u8], seq: u8, code: u8, content: &[u8], status: [u8; 6]) -> Built
-    ensures { λ r. ⌜ replyOf r (now (buf .exit)) ≡ building Answer (now (buf .entry)) (answerOf seq code (now (content .entry)) status) ⌝ }
+    ensures { λ r. ⌜ replyOf r (now (buf .exit)) ≡ building ToTill (now (buf .entry)) (answerOf seq code (now (content .entry)) status) ⌝ }
 {
     if buf.len() < ANSWER_ROOM {
         return Built::Short;
@@ -38,7 +38,7 @@ pub fn build_answer(buf: &mut [u8], seq: u8, code: u8, content: &[u8], status: [
     if !can_carry(seq, code, content) {
         return Built::Unsendable;
     }
-    if !suit::all_may_stand(Sort::Status, &status) {
+    if !suit::all_may_stand(Role::Status, &status) {
         return Built::Unsendable;
     }
     text::put_bytes(buf, 4, content);
@@ -74,16 +74,16 @@ fn finish(buf: &mut [u8], seq: u8, code: u8, n: usize, status: [u8; 6]) -> usize
 fn can_carry(seq: u8, code: u8, content: &[u8]) -> bool
     ensures { λ r. ⌜ r ≡ carriable seq code (now (content .entry)) ⌝ }
 {
-    if !suit::may_stand(Sort::Mark, seq) {
+    if !suit::may_stand(Role::Name, seq) {
         return false;
     }
-    if !suit::may_stand(Sort::Mark, code) {
+    if !suit::may_stand(Role::Name, code) {
         return false;
     }
     if MOST_DATA < content.len() {
         return false;
     }
-    suit::all_may_stand(Sort::Data, content)
+    suit::all_may_stand(Role::Data, content)
 }
 
 // The n bytes from the buffer's fifth on stand between CMD and 05h already; the rest is put around them.

@@ -12,15 +12,16 @@ pub const COMMAND_ROOM: usize = 210;
 
 pub const ANSWER_ROOM: usize = 217;
 
-// Which of the two frames: the differing parts of both stand beside each other in `specs/`.
-pub enum Kind {
-    Command,
-    Answer,
+// Which way a frame goes: a command to the device, an answer to the till end. The differing parts of both stand beside each other in
+// `specs/`.
+pub enum Way {
+    ToDevice,
+    ToTill,
 }
 
-// What a byte stands for: SEQ or CMD, data, or status.
-pub enum Sort {
-    Mark,
+// What a byte of a frame is: one of the two that name it (SEQ and CMD), data, or status.
+pub enum Role {
+    Name,
     Data,
     Status,
 }

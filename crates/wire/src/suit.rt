@@ -1,7 +1,7 @@
 // Which bytes suit which place, and the four bytes of a BCC.
-use crate::Kind;
 use crate::LEAST_LEN;
-use crate::Sort;
+use crate::Role;
+use crate::Way;
 ghost use mathlib.Core.Path.{_≡_};
 ghost use Prim.Native.Nat.{_+_};
 ghost use mathlib.Core.List.{_++_, _∷_, []};
@@ -21,23 +21,23 @@ fn may_stand_in_data(b: u8) -> bool
 }
 
 // Whether a byte may stand where one of its sort stands.
-pub fn may_stand(sort: Sort, b: u8) -> bool
-    ensures { λ r. ⌜ r ≡ mayStand sort b ⌝ }
+pub fn may_stand(role: Role, b: u8) -> bool
+    ensures { λ r. ⌜ r ≡ mayStand role b ⌝ }
 {
-    match sort {
-        Sort::Mark => 0x20 <= b,
-        Sort::Data => may_stand_in_data(b),
-        Sort::Status => 0x80 <= b,
+    match role {
+        Role::Name => 0x20 <= b,
+        Role::Data => may_stand_in_data(b),
+        Role::Status => 0x80 <= b,
     }
 }
 
 // Whether each byte of a part may.
-pub fn all_may_stand(sort: Sort, part: &[u8]) -> bool
-    ensures { λ r. ⌜ r ≡ every (mayStand sort) (now (part .entry)) ⌝ }
+pub fn all_may_stand(role: Role, part: &[u8]) -> bool
+    ensures { λ r. ⌜ r ≡ every (mayStand role) (now (part .entry)) ⌝ }
 {
     let mut i = 0;
     while i < part.len() {
-        if !may_stand(sort, part[i]) {
+        if !may_stand(role, part[i]) {
             return false;
         }
         i += 1;
@@ -58,20 +58,20 @@ pub fn bcc_bytes(sum: u16) -> [u8; 4]
 }
 
 // How many places stand between the data and 05h.
-pub fn behind_data(kind: Kind) -> usize
-    ensures { λ r. ⌜ r ≡ length (behindData kind) ⌝ }
+pub fn behind_data(way: Way) -> usize
+    ensures { λ r. ⌜ r ≡ length (behindData way) ⌝ }
 {
-    match kind {
-        Kind::Command => 0,
-        Kind::Answer => 7,
+    match way {
+        Way::ToDevice => 0,
+        Way::ToTill => 7,
     }
 }
 
 // How many data bytes LEN announces; 0 where it announces none or is no LEN.
-pub fn data_count(kind: Kind, len: u8) -> usize
-    ensures { λ r. ⌜ r ≡ dataCount kind len ⌝ }
+pub fn data_count(way: Way, len: u8) -> usize
+    ensures { λ r. ⌜ r ≡ dataCount way len ⌝ }
 {
-    let least = LEAST_LEN + behind_data(kind);
+    let least = LEAST_LEN + behind_data(way);
     let l = len as usize;
     if l < least {
         return 0;
@@ -80,10 +80,10 @@ pub fn data_count(kind: Kind, len: u8) -> usize
 }
 
 // The places behind the data up to 05h, from 0.
-pub fn suits_behind(kind: Kind, at: usize, b: u8) -> bool
-    ensures { λ r. ⌜ r ≡ getD (behindData kind ++ is 0x05 ∷ []) at none b ⌝ }
+pub fn suits_behind(way: Way, at: usize, b: u8) -> bool
+    ensures { λ r. ⌜ r ≡ getD (behindData way ++ is 0x05 ∷ []) at none b ⌝ }
 {
-    let n = behind_data(kind);
+    let n = behind_data(way);
     if n < at {
         return false;
     }
@@ -93,21 +93,21 @@ pub fn suits_behind(kind: Kind, at: usize, b: u8) -> bool
     if at == 0 {
         return b == 0x04;
     }
-    may_stand(Sort::Status, b)
+    may_stand(Role::Status, b)
 }
 
 // The places from SEQ to 05h, from 0, where n data bytes stand.
-pub fn suits_front(kind: Kind, n: usize, at: usize, b: u8) -> bool
-    ensures { λ r. ⌜ r ≡ getD (front kind n) at none b ⌝ }
+pub fn suits_front(way: Way, n: usize, at: usize, b: u8) -> bool
+    ensures { λ r. ⌜ r ≡ getD (front way n) at none b ⌝ }
 {
     if at < 2 {
-        return may_stand(Sort::Mark, b);
+        return may_stand(Role::Name, b);
     }
     let i = at - 2;
     if i < n {
-        return may_stand(Sort::Data, b);
+        return may_stand(Role::Data, b);
     }
-    suits_behind(kind, i - n, b)
+    suits_behind(way, i - n, b)
 }
 
 // The places behind 05h, from 0: BCC and 03h.

@@ -18,7 +18,7 @@ fresh-requires : tie.Need-fresh-requires Inv-loop μ-loop
 fresh-requires c κs = search needs
 
 loop-holds : tie.Need-loop-holds Inv-loop μ-loop
-loop-holds c = head-start (c .before .before .args .kind) (now (c .before .before .args .bytes)) _ (c .fresh .ensures)
+loop-holds c = head-start (c .before .before .args .way) (now (c .before .before .args .bytes)) _ (c .fresh .ensures)
 
 shared-slice-read-take-byte : tie.Need-shared-slice-read-take-byte Inv-loop μ-loop
 shared-slice-read-take-byte c = omega arith
@@ -50,11 +50,11 @@ loop-again c =
     let at = test .before .loop in
     let a = test .before .before .before .before .args in
     let t = c .before .before .before .take-byte in
-    head-turn (a .kind) (now (a .bytes)) (at .array) (at .reader) (at .broken) (at .whole) (at .i) (at .inv) (test .loop-test .taken)
+    head-turn (a .way) (now (a .bytes)) (at .array) (at .reader) (at .broken) (at .whole) (at .i) (at .inv) (test .loop-test .taken)
     _ (t .result) (t .ensures .0) (t .ensures .1) (omega (arith, t .ok)) _ _ (c .before .broken-in .ensures) (c .whole-in .ensures)
 
 returns : tie.Need-returns Inv-loop μ-loop
-returns c = head-done (c .before .before .before .before .args .kind) (now (c .before .before .before .before .args .bytes)) (c .before .loop .array) (c .before .loop .reader) _ _ (c .before .loop .i) (c .before .loop .inv) (c .loop-test .left)
+returns c = head-done (c .before .before .before .before .args .way) (now (c .before .before .before .before .args .bytes)) (c .before .loop .array) (c .before .loop .reader) _ _ (c .before .loop .i) (c .before .loop .inv) (c .loop-test .left)
 
 pub listen-spec : {M : Type 1} → statement M
 listen-spec =

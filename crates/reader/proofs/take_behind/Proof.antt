@@ -17,7 +17,7 @@ sub-at : tie.Need-sub-at
 sub-at c = search needs
 
 take-front-requires : tie.Need-take-front-requires
-take-front-requires c κs = (c .before .before .before .pre, omega (arith, length-front (c .before .before .before .args .kind) (c .before .before .before .args .n)))
+take-front-requires c κs = (c .before .before .before .pre, omega (arith, length-front (c .before .before .before .args .way) (c .before .before .before .args .n)))
 
 returns : tie.Need-returns
 returns c = search needs
@@ -25,7 +25,7 @@ returns c = search needs
 take-ending-requires : tie.Need-take-ending-requires
 take-ending-requires c κs =
     let s = c .before .before .before in
-    let edge = length-front (s .args .kind) (s .args .n) in
+    let edge = length-front (s .args .way) (s .args .n) in
     (s .pre, (omega arith, omega arith))
 
 returns-2 : tie.Need-returns-2

@@ -25,7 +25,7 @@ returns c =
     let a = s .args in
     let size : length (now (a .array)) ≡ 256 = omega arith in
     reads (now (a .array)) _ _ _ _
-    (read-start (a .kind) (placeOf (a .reader) (now (a .array))) (a .b) (c .before .if1 .taken))
+    (read-start (a .way) (placeOf (a .reader) (now (a .array))) (a .b) (c .before .if1 .taken))
     (c .started .ensures ∙ ap (λ e. takenOf (record { place = inside 0 []; event = e })) (sym (starts (a .reader) (now (a .array)) size)))
     refl
 
@@ -37,8 +37,8 @@ returns-2 c =
     let s = c .before .before .before .before .before .before in
     let a = s .args in
     reads (now (a .array)) _ _ _ _
-    (read-other (a .kind) (placeOf (a .reader) (now (a .array))) (a .b) (c .before .before .if1 .left)
-    ∙ ap (λ p. readOther (a .kind) p (a .b)) (place-out (a .reader) (now (a .array)) (not-true _ (c .before .if2 .taken))))
+    (read-other (a .way) (placeOf (a .reader) (now (a .array))) (a .b) (c .before .before .if1 .left)
+    ∙ ap (λ p. readOther (a .way) p (a .b)) (place-out (a .reader) (now (a .array)) (not-true _ (c .before .if2 .taken))))
     (rw (c .fresh .ensures)) refl
 
 take-len-requires : tie.Need-take-len-requires
@@ -49,9 +49,9 @@ returns-3 c =
     let s = c .before .before .before .before .before .before .before .before in
     let a = s .args in
     reads (now (a .array)) _ _ _ _
-    (read-other (a .kind) (placeOf (a .reader) (now (a .array))) (a .b) (c .before .before .before .before .if1 .left)
-    ∙ ap (λ p. readOther (a .kind) p (a .b)) (place-in (a .reader) (now (a .array)) (not-false _ (c .before .before .before .if2 .left)))
-    ∙ ap (λ n. readOther (a .kind) (inside (a .reader .sum) (take n (now (a .array)))) (a .b)) (c .before .before .if3 .taken))
+    (read-other (a .way) (placeOf (a .reader) (now (a .array))) (a .b) (c .before .before .before .before .if1 .left)
+    ∙ ap (λ p. readOther (a .way) p (a .b)) (place-in (a .reader) (now (a .array)) (not-false _ (c .before .before .before .if2 .left)))
+    ∙ ap (λ n. readOther (a .way) (inside (a .reader .sum) (take n (now (a .array)))) (a .b)) (c .before .before .if3 .taken))
     (c .take-len .ensures .0) (c .take-len .ensures .1)
 
 data-count-requires : tie.Need-data-count-requires
@@ -65,8 +65,8 @@ take-behind-requires c κs =
     let size : length (now (a .array)) ≡ 256 = omega arith in
     record {
       some = omega arith;
-      announced = d .ensures ∙ ap (dataCount (a .kind)) (c .before .before .before .before .before .first .ensures);
-      small = omega (arith, behind-small (a .kind), d .ensures, c .before .before .before .before .before .first .ok);
+      announced = d .ensures ∙ ap (dataCount (a .way)) (c .before .before .before .before .before .first .ensures);
+      small = omega (arith, behind-small (a .way), d .ensures, c .before .before .before .before .before .first .ok);
       size = size;
     }
 
@@ -75,8 +75,8 @@ returns-4 c =
     let other = c .before .before .before .before .before in
     let a = other .before .before .before .before .args in
     reads (now (a .array)) _ _ _ _
-    (read-other (a .kind) (placeOf (a .reader) (now (a .array))) (a .b) (other .if1 .left)
-    ∙ ap (λ p. readOther (a .kind) p (a .b)) (place-in (a .reader) (now (a .array)) (not-false _ (c .before .before .before .before .if2 .left))))
+    (read-other (a .way) (placeOf (a .reader) (now (a .array))) (a .b) (other .if1 .left)
+    ∙ ap (λ p. readOther (a .way) p (a .b)) (place-in (a .reader) (now (a .array)) (not-false _ (c .before .before .before .before .if2 .left))))
     (c .take-behind .ensures .0) (c .take-behind .ensures .1)
 
 pub take-byte-spec : {M : Type 1} → statement M

@@ -28,7 +28,7 @@ returns c =
     let s = c .before .before .before in
     let a = s .args in
     reads (now (a .array)) _ _ _ _
-    (ending-broken (a .kind) (a .n) (a .count) (now (a .array)) (s .pre .0) (s .fits .count .fits) (a .sum) (a .b) (omega (arith, s .pre .1))
+    (ending-broken (a .way) (a .n) (a .count) (now (a .array)) (s .pre .0) (s .fits .count .fits) (a .sum) (a .b) (omega (arith, s .pre .1))
     (rw (s .pre .1 .0) at (sym (c .before .before .suits-ending .ensures) ∙ not-true _ (c .before .if1 .taken))))
     (c .broken .ensures) refl
 
@@ -45,11 +45,11 @@ returns-2 : tie.Need-returns-2
 returns-2 c =
     let s = c .before .before .before .before .before .before in
     let a = s .args in
-    let past : length (front (a .kind) (a .n)) < a .count = omega (arith, s .pre .1) in
+    let past : length (front (a .way) (a .n)) < a .count = omega (arith, s .pre .1) in
     let four = rw (s .pre .1 .0) at (c .before .before .before .if2 .taken) in
     reads (now (a .array)) _ _ _ _
-    (ending-whole (a .kind) (a .n) (a .count) (now (a .array)) (s .pre .0) (s .fits .count .fits) (a .sum) (a .b) past (rw (s .pre .1 .0) at (sym (c .before .before .before .before .before .suits-ending .ensures) ∙ not-false _ (c .before .before .before .before .if1 .left))) four)
-    (rw (c .before .before .fresh .ensures, heard-whole (a .kind) (a .n) (a .count) (now (a .array)) (s .pre .0) (s .fits .count .fits) (a .sum) (a .b) past four) refl) refl
+    (ending-whole (a .way) (a .n) (a .count) (now (a .array)) (s .pre .0) (s .fits .count .fits) (a .sum) (a .b) past (rw (s .pre .1 .0) at (sym (c .before .before .before .before .before .suits-ending .ensures) ∙ not-false _ (c .before .before .before .before .if1 .left))) four)
+    (rw (c .before .before .fresh .ensures, heard-whole (a .way) (a .n) (a .count) (now (a .array)) (s .pre .0) (s .fits .count .fits) (a .sum) (a .b) past four) refl) refl
 
 element-write-array : tie.Need-element-write-array
 element-write-array c = search needs
@@ -57,14 +57,14 @@ element-write-array c = search needs
 add-t23 : tie.Need-add-t23
 add-t23 c =
     let s = c .before .before .before in
-    omega (arith, s .pre .0 .small, length-front (s .args .kind) (s .args .n), ending-in (s .args .sum) (s .args .count - 1 - s .args .edge) (s .args .b) (sym (c .before .before .suits-ending .ensures) ∙ not-false _ (c .before .if1 .left)))
+    omega (arith, s .pre .0 .small, length-front (s .args .way) (s .args .n), ending-in (s .args .sum) (s .args .count - 1 - s .args .edge) (s .args .b) (sym (c .before .before .suits-ending .ensures) ∙ not-false _ (c .before .if1 .left)))
 
 returns-3 : tie.Need-returns-3
 returns-3 c =
     let s = c .before .before .before in
     let a = s .args in
-    more (a .kind) (a .n) (a .count) (now (a .array)) (s .pre .0) (s .fits .count .fits) (a .sum) (a .b) _ _
-    (ending-more (a .kind) (a .n) (a .count) (now (a .array)) (s .pre .0) (s .fits .count .fits) (a .sum) (a .b) (omega (arith, s .pre .1))
+    more (a .way) (a .n) (a .count) (now (a .array)) (s .pre .0) (s .fits .count .fits) (a .sum) (a .b) _ _
+    (ending-more (a .way) (a .n) (a .count) (now (a .array)) (s .pre .0) (s .fits .count .fits) (a .sum) (a .b) (omega (arith, s .pre .1))
     (rw (s .pre .1 .0) at (sym (c .before .before .suits-ending .ensures) ∙ not-false _ (c .before .if1 .left)))
     (rw (s .pre .1 .0) at (c .if2 .left)))
 

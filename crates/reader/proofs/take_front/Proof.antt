@@ -22,7 +22,7 @@ returns c =
     let s = c .before .before .before in
     let a = s .args in
     reads (now (a .array)) _ _ _ _
-    (front-broken (a .kind) (a .n) (a .count) (now (a .array)) (s .pre .0) (s .fits .count .fits) (a .sum) (a .b) (s .pre .1)
+    (front-broken (a .way) (a .n) (a .count) (now (a .array)) (s .pre .0) (s .fits .count .fits) (a .sum) (a .b) (s .pre .1)
     (sym (c .before .before .suits-front .ensures) ∙ not-true _ (c .before .if1 .taken)))
     (c .broken .ensures) refl
 
@@ -30,7 +30,7 @@ element-write-array : tie.Need-element-write-array
 element-write-array c = search needs
 
 add-t13 : tie.Need-add-t13
-add-t13 c = omega (arith, c .before .before .pre .0 .small, length-front (c .before .before .args .kind) (c .before .before .args .n))
+add-t13 c = omega (arith, c .before .before .pre .0 .small, length-front (c .before .before .args .way) (c .before .before .args .n))
 
 add-t16 : tie.Need-add-t16
 add-t16 c = search needs
@@ -42,8 +42,8 @@ returns-2 : tie.Need-returns-2
 returns-2 c =
     let s = c .before .before in
     let a = s .args in
-    more (a .kind) (a .n) (a .count) (now (a .array)) (s .pre .0) (s .fits .count .fits) (a .sum) (a .b) _ _
-    (front-more (a .kind) (a .n) (a .count) (now (a .array)) (s .pre .0) (s .fits .count .fits) (a .sum) (a .b) (s .pre .1)
+    more (a .way) (a .n) (a .count) (now (a .array)) (s .pre .0) (s .fits .count .fits) (a .sum) (a .b) _ _
+    (front-more (a .way) (a .n) (a .count) (now (a .array)) (s .pre .0) (s .fits .count .fits) (a .sum) (a .b) (s .pre .1)
     (sym (c .before .suits-front .ensures) ∙ not-false _ (c .if1 .left)))
 
 pub take-front-spec : {M : Type 1} → statement M

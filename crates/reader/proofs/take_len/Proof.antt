@@ -11,7 +11,7 @@ behind-data-requires : tie.Need-behind-data-requires
 behind-data-requires c κs = search needs
 
 add-least : tie.Need-add-least
-add-least c = omega (arith, behind-small (c .before .args .kind))
+add-least c = omega (arith, behind-small (c .before .args .way))
 
 broken-requires : tie.Need-broken-requires
 broken-requires c κs = search needs
@@ -19,7 +19,7 @@ broken-requires c κs = search needs
 returns : tie.Need-returns
 returns c =
     let s = c .before .before .before in
-    reads (now (s .args .array)) _ _ _ _ (len-low (s .args .kind) (s .args .b) (omega arith)) (c .broken .ensures) refl
+    reads (now (s .args .array)) _ _ _ _ (len-low (s .args .way) (s .args .b) (omega arith)) (c .broken .ensures) refl
 
 add-if2 : tie.Need-add-if2
 add-if2 c = search needs
@@ -30,7 +30,7 @@ broken-requires-2 c κs = search needs
 returns-2 : tie.Need-returns-2
 returns-2 c =
     let s = c .before .before .before .before in
-    reads (now (s .args .array)) _ _ _ _ (len-high (s .args .kind) (s .args .b) (omega arith) (omega arith)) (c .broken2 .ensures) refl
+    reads (now (s .args .array)) _ _ _ _ (len-high (s .args .way) (s .args .b) (omega arith) (omega arith)) (c .broken2 .ensures) refl
 
 element-write-array : tie.Need-element-write-array
 element-write-array c = search needs
@@ -38,7 +38,7 @@ element-write-array c = search needs
 returns-3 : tie.Need-returns-3
 returns-3 c =
     let s = c .before .before .before in
-    reads (now (s .args .array)) _ _ _ _ (len-more (s .args .kind) (s .args .b) (omega arith) (omega arith)) refl refl
+    reads (now (s .args .array)) _ _ _ _ (len-more (s .args .way) (s .args .b) (omega arith) (omega arith)) refl refl
 
 pub take-len-spec : {M : Type 1} → statement M
 take-len-spec =

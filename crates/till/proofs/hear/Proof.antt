@@ -4,7 +4,7 @@ use mathlib.Core.Path.{_≡_, refl, sym, ap, _∙_}
 use native.Mathlib.Omega.{arith}
 use lib.ListN.{length}
 use denote.Ref.{now}
-use Rattle.wire.specs.declared.Kind.the-variants.{Answer}
+use Rattle.wire.specs.declared.Way.the-variants.{ToTill}
 use Rattle.reader.specs.Fields.{placeOf}
 use Rattle.reader.specs.declared.Taken.{Taken}
 use Rattle.till.proofs.Hearing.{told-nothing, told-broken, told-whole, broken-outside, heard-from}
@@ -78,7 +78,7 @@ returns-3 c =
     let t = k .take-byte in
     let n = nak-is (a .a .ear .reader) (now (a .answer)) (a .b) ∙ sym (k .before .before .before .nak-outside .ensures) ∙ k .before .before .if1 .left in
     let w = told-whole _ _ _ _ (ap (λ (z : Taken). z .heard) (sym (t .ensures .0)) ∙ g .heard .given .1) in
-    let f = heard-from Answer (placeOf (a .a .ear .reader) (now (a .answer))) (a .b) (w .message) (w .is) in
+    let f = heard-from ToTill (placeOf (a .a .ear .reader) (now (a .answer))) (a .b) (w .message) (w .is) in
     told (now (a .answer)) _ (now (a .buf)) _ _ _ _
     (hear-other-seq (a .next) (a .a) (now (a .frame)) (now (a .answer)) (a .b) n (w .message) (w .is) (λ e. c .before .before .before .before .if3 .taken (sym (w .seq-is) ∙ e)))
     (c .before .before .failed-try3 .ensures .0)
@@ -100,7 +100,7 @@ returns-4 c =
     let t = k .take-byte in
     let n = nak-is (a .a .ear .reader) (now (a .answer)) (a .b) ∙ sym (k .before .before .before .nak-outside .ensures) ∙ k .before .before .if1 .left in
     let w = told-whole _ _ _ _ (ap (λ (z : Taken). z .heard) (sym (t .ensures .0)) ∙ g .heard .given .1) in
-    let f = heard-from Answer (placeOf (a .a .ear .reader) (now (a .answer))) (a .b) (w .message) (w .is) in
+    let f = heard-from ToTill (placeOf (a .a .ear .reader) (now (a .answer))) (a .b) (w .message) (w .is) in
     told (now (a .answer)) _ (now (a .buf)) _ _ _ _
     (hear-other-code (a .next) (a .a) (now (a .frame)) (now (a .answer)) (a .b) n (w .message) (w .is) (w .seq-is ∙ e3 .if3 .left) (λ e. c .before .before .before .before .if4 .taken (sym (w .code-is) ∙ e)))
     (c .before .before .failed-try4 .ensures .0)
@@ -114,7 +114,7 @@ answered-requires c κs =
     let a = k .before .before .before .before .before .before .before .before .args in
     let t = k .take-byte in
     let w = told-whole _ _ _ _ (ap (λ (z : Taken). z .heard) (sym (t .ensures .0)) ∙ g .heard .given .1) in
-    let f = heard-from Answer (placeOf (a .a .ear .reader) (now (a .answer))) (a .b) (w .message) (w .is) in
+    let f = heard-from ToTill (placeOf (a .a .ear .reader) (now (a .answer))) (a .b) (w .message) (w .is) in
     let same = kept-outside (now (a .answer)) _ _ (t .ensures .1) (f .left) in
     let size : length (now (a .answer)) ≡ 256 = omega (arith, ap length same) in
     omega (arith, ap length same, w .size, stands (a .a .ear .reader) (now (a .answer)) (a .b) (w .message) size (omega (arith, c .before .before .before .before .before .before .struct-known .given .1 .1 .1 .1)) (w .is) .room)
@@ -144,7 +144,7 @@ returns-6 c =
     told (now (a .answer)) _ (now (a .buf)) _ _ _ _
     (hear-broken (a .next) (a .a) (now (a .frame)) (now (a .answer)) (a .b) n h (c .before .before .before .before .if2 .left))
     (c .before .before .failed-try2 .ensures .0)
-    (kept-outside (now (a .answer)) _ _ (t .ensures .1) (broken-outside Answer (placeOf (a .a .ear .reader) (now (a .answer))) (a .b) (ne-eqb (a .b) 0x01 (c .before .before .before .before .if2 .left)) h) ∙ fails-keeps (a .next) (a .a) (now (a .frame)) (now (a .answer)))
+    (kept-outside (now (a .answer)) _ _ (t .ensures .1) (broken-outside ToTill (placeOf (a .a .ear .reader) (now (a .answer))) (a .b) (ne-eqb (a .b) 0x01 (c .before .before .before .before .if2 .left)) h) ∙ fails-keeps (a .next) (a .a) (now (a .frame)) (now (a .answer)))
     (c .before .before .failed-try2 .ensures .1)
 
 same-length-5 : tie.Need-same-length-5
@@ -159,7 +159,7 @@ returns-7 c =
     let t = k .take-byte in
     let n = nak-is (a .a .ear .reader) (now (a .answer)) (a .b) ∙ sym (k .before .before .before .nak-outside .ensures) ∙ k .before .before .if1 .left in
     let w = told-whole _ _ _ _ (ap (λ (z : Taken). z .heard) (sym (t .ensures .0)) ∙ g .heard .given .1) in
-    let f = heard-from Answer (placeOf (a .a .ear .reader) (now (a .answer))) (a .b) (w .message) (w .is) in
+    let f = heard-from ToTill (placeOf (a .a .ear .reader) (now (a .answer))) (a .b) (w .message) (w .is) in
     let same = kept-outside (now (a .answer)) _ _ (t .ensures .1) (f .left) in
     let size : length (now (a .answer)) ≡ 256 = omega (arith, ap length same, c .before .before .before .before .answered-arg2 .given) in
     let whole = stands (a .a .ear .reader) (now (a .answer)) (a .b) (w .message) size (omega (arith, e3 .before .struct-known .given .1 .1 .1 .1)) (w .is) in

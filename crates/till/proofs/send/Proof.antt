@@ -3,7 +3,7 @@ use native.Mathlib.Omega.{arith}
 use lib.ListN.{length}
 use denote.Ref.{now}
 use Rattle.wire.specs.Frame.{commandOf}
-use Rattle.wire.specs.declared.Kind.the-variants.{Command}
+use Rattle.wire.specs.declared.Way.the-variants.{ToDevice}
 use Rattle.reader.proofs.RoundTrip.{frame-size}
 use Rattle.till.proofs.Outer.{built-frame, built-short, built-not, says-not, says-sent}
 use borrow.Author.Needs.{needs}
@@ -33,7 +33,7 @@ cast-count c =
     let a = c .before .before .before .before .before .before .before .args in
     let size : length (now (a .frame)) ≡ 256 = omega arith in
     let built = built-frame (a .next) (a .code) (now (a .content)) (now (a .frame)) size _ _ _ (c .before .built .given .1) (c .before .before .before .build-command .ensures) in
-    omega (arith, built .1 .0, frame-size Command (commandOf (a .next) (a .code) (now (a .content))) (built .0) .1)
+    omega (arith, built .1 .0, frame-size ToDevice (commandOf (a .next) (a .code) (now (a .content))) (built .0) .1)
 
 hand-out-requires : tie.Need-hand-out-requires
 hand-out-requires c κs = search needs

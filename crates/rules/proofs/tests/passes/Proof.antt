@@ -1,15 +1,14 @@
-use Rattle.rules.proofs.Reasoning.{passes-already, passes-now, passes-not}
+use mathlib.Core.Path.{ap}
+use mathlib.Core.Bool.{not}
+use borrow.Author.Needs.{needs}
 use Rattle.rules.proofs.tests.passes.Statement.{statement}
 use Rattle.rules.proofs.tests.passes.Tie as tie
 
+fits-sum-requires : tie.Need-fits-sum-requires
+fits-sum-requires c κs = search needs
+
 returns : tie.Need-returns
-returns c = passes-already (c .before .args .sum) (c .before .args .n) (c .if1 .taken)
-
-returns-2 : tie.Need-returns-2
-returns-2 c = passes-now (c .before .before .args .sum) (c .before .before .args .n) (c .before .if1 .left) (c .if2 .taken)
-
-returns-3 : tie.Need-returns-3
-returns-3 c = passes-not (c .before .before .args .sum) (c .before .before .args .n) (c .before .if1 .left) (c .if2 .left)
+returns c = ap not (c .fits-sum .ensures)
 
 pub passes-spec : {M : Type 1} → statement M
-passes-spec = tie.close (tie.spec returns returns-2 returns-3)
+passes-spec = tie.close (tie.spec fits-sum-requires returns)

@@ -8,7 +8,7 @@ use denote.Ref.{now}
 use lib.ListN.{length, length-append}
 use lib.Seq.{sets}
 use Rattle.wire.specs.Frame.{answerOf, enclosed}
-use Rattle.wire.specs.declared.Kind.the-variants.{Answer}
+use Rattle.wire.specs.declared.Way.the-variants.{ToTill}
 use borrow.Author.Needs.{needs}
 use Rattle.wire.proofs.build.build_answer.Statement.{statement}
 use Rattle.wire.proofs.build.build_answer.Tie as tie
@@ -16,7 +16,7 @@ use Rattle.wire.proofs.build.build_answer.Tie as tie
 returns : tie.Need-returns
 returns c =
     let a = c .before .before .before .args in
-    sym (too-short Answer (now (a .buf)) (answerOf (a .seq) (a .code) (now (a .content)) (a .t5)) (c .if1 .taken))
+    sym (too-short ToTill (now (a .buf)) (answerOf (a .seq) (a .code) (now (a .content)) (a .t5)) (c .if1 .taken))
 
 can-carry-requires : tie.Need-can-carry-requires
 can-carry-requires c κs = search needs
@@ -25,7 +25,7 @@ returns-2 : tie.Need-returns-2
 returns-2 c =
     let a = c .before .before .before .before .before .args in
     let m = answerOf (a .seq) (a .code) (now (a .content)) (a .t5) in
-    sym (cannot Answer (now (a .buf)) m (c .before .before .if1 .left) (not-carried Answer m (sym (c .before .can-carry .ensures) ∙ not-true _ (c .if2 .taken))))
+    sym (cannot ToTill (now (a .buf)) m (c .before .before .if1 .left) (not-carried ToTill m (sym (c .before .can-carry .ensures) ∙ not-true _ (c .if2 .taken))))
 
 slice-aggregate-all-may-stand : tie.Need-slice-aggregate-all-may-stand
 slice-aggregate-all-may-stand c = search needs
@@ -37,7 +37,7 @@ returns-3 : tie.Need-returns-3
 returns-3 c =
     let a = c .before .before .before .before .before .before .before .before .args in
     let m = answerOf (a .seq) (a .code) (now (a .content)) (a .t5) in
-    sym (cannot Answer (now (a .buf)) m (c .before .before .before .before .before .if1 .left) (no-status Answer m (sym (c .before .all-may-stand .ensures) ∙ not-true _ (c .if3 .taken))))
+    sym (cannot ToTill (now (a .buf)) m (c .before .before .before .before .before .if1 .left) (no-status ToTill m (sym (c .before .all-may-stand .ensures) ∙ not-true _ (c .if3 .taken))))
 
 put-bytes-requires : tie.Need-put-bytes-requires
 put-bytes-requires c κs = search needs
@@ -64,7 +64,7 @@ returns-4 c =
     let size : c .before .before .finish .result ≡ length (enclosed (a .seq) (a .code) inner) = c .before .before .finish .ensures .0 ∙ omega (arith, length-enclosed (a .seq) (a .code) inner) in
     let put : c .before .before .finish .last .0 ≡ sets (now (a .buf)) 0 (enclosed (a .seq) (a .code) inner) =
     around (now (a .buf)) (now (a .content)) (a .seq) (a .code) (λ z. z ++ 0x04 ∷ a .t5) (omega arith) (omega (arith, c .before .before .before .before .before .before .before .before .before .before .before .before .before .if1 .left)) _ _ (c .before .before .before .before .before .before .put-bytes .ensures) (c .before .before .finish .ensures .1) in
-    rw (size, put) (sym (can Answer (now (a .buf)) m (c .before .before .before .before .before .before .before .before .before .before .before .before .before .if1 .left) sent))
+    rw (size, put) (sym (can ToTill (now (a .buf)) m (c .before .before .before .before .before .before .before .before .before .before .before .before .before .if1 .left) sent))
 
 pub build-answer-spec : {M : Type 1} → statement M
 build-answer-spec =

@@ -5,7 +5,7 @@ use denote.Ref.{now}
 use lib.ListN.{length}
 use lib.Seq.{sets}
 use Rattle.wire.specs.Frame.{commandOf, enclosed}
-use Rattle.wire.specs.declared.Kind.the-variants.{Command}
+use Rattle.wire.specs.declared.Way.the-variants.{ToDevice}
 use Rattle.wire.proofs.Building.{around, length-enclosed, carriable-short, sendable-command, too-short, cannot, can}
 use borrow.Author.Needs.{needs}
 use Rattle.wire.proofs.build.build_command.Statement.{statement}
@@ -14,7 +14,7 @@ use Rattle.wire.proofs.build.build_command.Tie as tie
 returns : tie.Need-returns
 returns c =
     let a = c .before .before .before .args in
-    sym (too-short Command (now (a .buf)) (commandOf (a .seq) (a .code) (now (a .content))) (c .if1 .taken))
+    sym (too-short ToDevice (now (a .buf)) (commandOf (a .seq) (a .code) (now (a .content))) (c .if1 .taken))
 
 can-carry-requires : tie.Need-can-carry-requires
 can-carry-requires c κs = search needs
@@ -22,7 +22,7 @@ can-carry-requires c κs = search needs
 returns-2 : tie.Need-returns-2
 returns-2 c =
     let a = c .before .before .before .before .before .args in
-    sym (cannot Command (now (a .buf)) (commandOf (a .seq) (a .code) (now (a .content))) (c .before .before .if1 .left)
+    sym (cannot ToDevice (now (a .buf)) (commandOf (a .seq) (a .code) (now (a .content))) (c .before .before .if1 .left)
     (sendable-command (a .seq) (a .code) (now (a .content)) ∙ sym (c .before .can-carry .ensures) ∙ not-true _ (c .if2 .taken)))
 
 put-bytes-requires : tie.Need-put-bytes-requires
@@ -46,7 +46,7 @@ returns-3 c =
     c .before .before .enclose .ensures .0 ∙ sym (length-enclosed (a .seq) (a .code) (now (a .content))) in
     let put : c .before .before .enclose .last .0 ≡ sets (now (a .buf)) 0 (enclosed (a .seq) (a .code) (now (a .content))) =
     around (now (a .buf)) (now (a .content)) (a .seq) (a .code) (λ z. z) (omega arith) (omega (arith, c .before .before .before .before .before .before .before .before .before .before .if1 .left)) _ _ (c .before .before .before .before .before .before .put-bytes .ensures) (c .before .before .enclose .ensures .1) in
-    rw (size, put) (sym (can Command (now (a .buf)) (commandOf (a .seq) (a .code) (now (a .content))) (c .before .before .before .before .before .before .before .before .before .before .if1 .left) (sendable-command (a .seq) (a .code) (now (a .content)) ∙ fits)))
+    rw (size, put) (sym (can ToDevice (now (a .buf)) (commandOf (a .seq) (a .code) (now (a .content))) (c .before .before .before .before .before .before .before .before .before .before .if1 .left) (sendable-command (a .seq) (a .code) (now (a .content)) ∙ fits)))
 
 pub build-command-spec : {M : Type 1} → statement M
 build-command-spec =

@@ -30,7 +30,7 @@ returns : tie.Need-returns Inv-loop μ-loop
 returns c =
     let at = c .before .before .before .before in
     let s = at .before .before in
-    sym (at .loop .inv .1 ∙ every-stop (mayStand (s .args .sort)) (now (s .args .part)) (at .loop .i) (c .before .before .before .loop-test .taken) (sym (c .before .may-stand .ensures) ∙ not-true _ (c .if1 .taken)))
+    sym (at .loop .inv .1 ∙ every-stop (mayStand (s .args .role)) (now (s .args .part)) (at .loop .i) (c .before .before .before .loop-test .taken) (sym (c .before .may-stand .ensures) ∙ not-true _ (c .if1 .taken)))
 
 add-i : tie.Need-add-i Inv-loop μ-loop
 add-i c = omega arith
@@ -43,13 +43,13 @@ loop-again c =
     let at = c .before .before .before .before in
     let s = at .before .before in (
       omega arith,
-      at .loop .inv .1 ∙ every-turn (mayStand (s .args .sort)) (now (s .args .part)) (at .loop .i) (c .before .before .before .loop-test .taken) (sym (c .before .may-stand .ensures) ∙ not-false _ (c .if1 .left)),
+      at .loop .inv .1 ∙ every-turn (mayStand (s .args .role)) (now (s .args .part)) (at .loop .i) (c .before .before .before .loop-test .taken) (sym (c .before .may-stand .ensures) ∙ not-false _ (c .if1 .left)),
     )
 
 returns-2 : tie.Need-returns-2 Inv-loop μ-loop
 returns-2 c =
     let s = c .before .before .before in
-    sym (c .before .loop .inv .1 ∙ every-done (mayStand (s .args .sort)) (now (s .args .part)) (c .before .loop .i) (c .loop-test .left))
+    sym (c .before .loop .inv .1 ∙ every-done (mayStand (s .args .role)) (now (s .args .part)) (c .before .loop .i) (c .loop-test .left))
 
 pub all-may-stand-spec : {M : Type 1} → statement M
 all-may-stand-spec =

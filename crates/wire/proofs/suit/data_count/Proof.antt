@@ -8,7 +8,7 @@ behind-data-requires : tie.Need-behind-data-requires
 behind-data-requires c κs = search needs
 
 add-least : tie.Need-add-least
-add-least c = omega (arith, behind-small (c .before .args .kind))
+add-least c = omega (arith, behind-small (c .before .args .way))
 
 returns : tie.Need-returns
 returns c = search needs
