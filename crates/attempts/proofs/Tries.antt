@@ -16,7 +16,7 @@ use Rattle.wire.specs.declared.Way.the-variants.{ToDevice}
 use Rattle.wire.specs.declared.Role.the-variants.{Name as SeqOrCmd, Data}
 use Rattle.wire.proofs.Building.{sendable-command}
 use Rattle.till.specs.Turns.{Ear, freshEar, Pending, idle, waits, State, freshState, Happening, command, byte, timeout, Turn, stays, sent, Meaning, failed, goesOn, answers, byteMeans, failsTry, onMeaning, onCommand, takes, hears}
-use Rattle.attempts.specs.History.{LentEvent, says, behind, seqOf, Open, none, one, Seen, nothingSeen, onWord, noted, watch, watched, Name, ended, marksOf, marks, alternate, ends, failure, failureOf, failures}
+use Rattle.attempts.specs.History.{LentEvent, says, behind, seqOf, Open, none, one, Seen, nothingSeen, onWord, noted, watch, watched, Mark, ended, marksOf, marks, alternate, ends, failure, failureOf, failures}
 use Rattle.attempts.specs.Promises.{Tried, GivenUp}
 use Rattle.till.specs.declared.Word.the-variants.{Idle, Unfinished, TooShort, NotSent}
 use Rattle.attempts.proofs.Answers.{none-idle}
@@ -87,7 +87,7 @@ waitingIn idle = false
 waitingIn (waits seq code bytes tries ear) = true
 
 abbrev Fits : Pending → Happening → Turn → Type 0
-Fits p h t = (ms : List Name) → alternate (waitingIn p) (marksOf h (t .word) ++ ms) ≡ alternate (waitingIn (t .state .pending)) ms
+Fits p h t = (ms : List Mark) → alternate (waitingIn p) (marksOf h (t .word) ++ ms) ≡ alternate (waitingIn (t .state .pending)) ms
 
 fits-failed : (next seq code : ℕ) (bytes : List ℕ) (tries : ℕ) (ear : Ear) (h : Happening)
     → Fits (waits seq code bytes tries ear) h (failsTry next seq code bytes tries)

@@ -4,72 +4,6 @@ use borrow.Author.Needs.{needs}
 use Rattle.acts.proofs.act.Statement.{statement}
 use Rattle.acts.proofs.act.Tie as tie
 
-enum-known-view : tie.Need-enum-known-view
-enum-known-view c = search needs
-
-open-fiscal-requires : tie.Need-open-fiscal-requires
-open-fiscal-requires c κs = search needs
-
-enum-known-view-2 : tie.Need-enum-known-view-2
-enum-known-view-2 c = search needs
-
-sell-requires : tie.Need-sell-requires
-sell-requires c κs = search needs
-
-enum-known-view-3 : tie.Need-enum-known-view-3
-enum-known-view-3 c = search needs
-
-pay-requires : tie.Need-pay-requires
-pay-requires c κs = search needs
-
-enum-told : tie.Need-enum-told
-enum-told c = search needs
-
-close-requires : tie.Need-close-requires
-close-requires c κs = search needs
-
-enum-told-2 : tie.Need-enum-told-2
-enum-told-2 c = search needs
-
-cancel-requires : tie.Need-cancel-requires
-cancel-requires c κs = search needs
-
-enum-told-3 : tie.Need-enum-told-3
-enum-told-3 c = search needs
-
-open-text-requires : tie.Need-open-text-requires
-open-text-requires c κs = search needs
-
-enum-told-4 : tie.Need-enum-told-4
-enum-told-4 c = search needs
-
-close-text-requires : tie.Need-close-text-requires
-close-text-requires c κs = search needs
-
-enum-told-5 : tie.Need-enum-told-5
-enum-told-5 c = search needs
-
-clear-requires : tie.Need-clear-requires
-clear-requires c κs = search needs
-
-enum-known-view-4 : tie.Need-enum-known-view-4
-enum-known-view-4 c = search needs
-
-put-in-requires : tie.Need-put-in-requires
-put-in-requires c κs = search needs
-
-enum-known-view-5 : tie.Need-enum-known-view-5
-enum-known-view-5 c = search needs
-
-take-out-requires : tie.Need-take-out-requires
-take-out-requires c κs = search needs
-
-enum-known-view-6 : tie.Need-enum-known-view-6
-enum-known-view-6 c = search needs
-
-ask-requires : tie.Need-ask-requires
-ask-requires c κs = search needs
-
 returns : tie.Need-returns
 returns c =
     let k = c .before .before in
@@ -129,28 +63,28 @@ pub act-spec : {M : Type 1} → statement M
 act-spec =
     tie.close
     (tie.spec
-    enum-known-view
-    open-fiscal-requires
-    enum-known-view-2
-    sell-requires
-    enum-known-view-3
-    pay-requires
-    enum-told
-    close-requires
-    enum-told-2
-    cancel-requires
-    enum-told-3
-    open-text-requires
-    enum-told-4
-    close-text-requires
-    enum-told-5
-    clear-requires
-    enum-known-view-4
-    put-in-requires
-    enum-known-view-5
-    take-out-requires
-    enum-known-view-6
-    ask-requires
+    (λ c. search needs)
+    (λ c κs. search needs)
+    (λ c. search needs)
+    (λ c κs. search needs)
+    (λ c. search needs)
+    (λ c κs. search needs)
+    (λ c. search needs)
+    (λ c κs. search needs)
+    (λ c. search needs)
+    (λ c κs. search needs)
+    (λ c. search needs)
+    (λ c κs. search needs)
+    (λ c. search needs)
+    (λ c κs. search needs)
+    (λ c. search needs)
+    (λ c κs. search needs)
+    (λ c. search needs)
+    (λ c κs. search needs)
+    (λ c. search needs)
+    (λ c κs. search needs)
+    (λ c. search needs)
+    (λ c κs. search needs)
     returns
     returns-2
     returns-3

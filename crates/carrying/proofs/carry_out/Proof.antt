@@ -14,13 +14,7 @@ returns c =
     (worked-short (a .books) (commandOf (a .seq) (a .code) (now (a .content))) (now (a .buf)) (c .if1 .taken), omega arith)
 
 -- src/lib.rt:33:5
-answer-requires : tie.Need-answer-requires
-answer-requires c κs = search needs
-
 -- src/lib.rt:22:1
-same-length : tie.Need-same-length
-same-length c = search needs
-
 -- src/lib.rt:22:1
 returns-2 : tie.Need-returns-2
 returns-2 c =
@@ -29,4 +23,4 @@ returns-2 c =
     (made .ensures .0 ∙ worked-long (a .books) (commandOf (a .seq) (a .code) (now (a .content))) (now (a .buf)) (c .before .before .before .before .if1 .left), made .ensures .1)
 
 pub carry-out-spec : {M : Type 1} → statement M
-carry-out-spec = tie.close (tie.spec returns answer-requires same-length returns-2)
+carry-out-spec = tie.close (tie.spec returns (λ c κs. search needs) (λ c. search needs) returns-2)

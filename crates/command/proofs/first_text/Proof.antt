@@ -4,15 +4,6 @@ use borrow.Author.Needs.{needs}
 use Rattle.command.proofs.first_text.Statement.{statement}
 use Rattle.command.proofs.first_text.Tie as tie
 
-only-line-requires : tie.Need-only-line-requires
-only-line-requires c κs = search needs
-
-first-line-requires : tie.Need-first-line-requires
-first-line-requires c κs = search needs
-
-slice-aggregate-result : tie.Need-slice-aggregate-result
-slice-aggregate-result c = search needs
-
 returns : tie.Need-returns
 returns c = rw (c .before .match .keys1) (c .only-line .ensures)
 
@@ -29,9 +20,9 @@ pub first-text-spec : {M : Type 1} → statement M
 first-text-spec =
     tie.close
     (tie.spec
-    only-line-requires
-    first-line-requires
-    slice-aggregate-result
+    (λ c κs. search needs)
+    (λ c κs. search needs)
+    (λ c. search needs)
     returns
     returns-2
     returns-3)

@@ -3,48 +3,6 @@ use borrow.Author.Needs.{needs}
 use Rattle.command.proofs.parse.Statement.{statement}
 use Rattle.command.proofs.parse.Tie as tie
 
-bare-requires : tie.Need-bare-requires
-bare-requires c κs = search needs
-
-bare-requires-2 : tie.Need-bare-requires-2
-bare-requires-2 c κs = search needs
-
-text-requires : tie.Need-text-requires
-text-requires c κs = search needs
-
-open-receipt-requires : tie.Need-open-receipt-requires
-open-receipt-requires c κs = search needs
-
-sell-requires : tie.Need-sell-requires
-sell-requires c κs = search needs
-
-subtotal-requires : tie.Need-subtotal-requires
-subtotal-requires c κs = search needs
-
-pay-requires : tie.Need-pay-requires
-pay-requires c κs = search needs
-
-bare-requires-3 : tie.Need-bare-requires-3
-bare-requires-3 c κs = search needs
-
-bare-requires-4 : tie.Need-bare-requires-4
-bare-requires-4 c κs = search needs
-
-sums-requires : tie.Need-sums-requires
-sums-requires c κs = search needs
-
-closing-requires : tie.Need-closing-requires
-closing-requires c κs = search needs
-
-drawer-requires : tie.Need-drawer-requires
-drawer-requires c κs = search needs
-
-bare-requires-5 : tie.Need-bare-requires-5
-bare-requires-5 c κs = search needs
-
-bare-requires-6 : tie.Need-bare-requires-6
-bare-requires-6 c κs = search needs
-
 returns : tie.Need-returns
 returns c = rw (c .before .match .keys1) (c .bare .ensures)
 
@@ -96,20 +54,20 @@ pub parse-spec : {M : Type 1} → statement M
 parse-spec =
     tie.close
     (tie.spec
-    bare-requires
-    bare-requires-2
-    text-requires
-    open-receipt-requires
-    sell-requires
-    subtotal-requires
-    pay-requires
-    bare-requires-3
-    bare-requires-4
-    sums-requires
-    closing-requires
-    drawer-requires
-    bare-requires-5
-    bare-requires-6
+    (λ c κs. search needs)
+    (λ c κs. search needs)
+    (λ c κs. search needs)
+    (λ c κs. search needs)
+    (λ c κs. search needs)
+    (λ c κs. search needs)
+    (λ c κs. search needs)
+    (λ c κs. search needs)
+    (λ c κs. search needs)
+    (λ c κs. search needs)
+    (λ c κs. search needs)
+    (λ c κs. search needs)
+    (λ c κs. search needs)
+    (λ c κs. search needs)
     returns
     returns-2
     returns-3

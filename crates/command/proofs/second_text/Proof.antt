@@ -4,12 +4,6 @@ use borrow.Author.Needs.{needs}
 use Rattle.command.proofs.second_text.Statement.{statement}
 use Rattle.command.proofs.second_text.Tie as tie
 
-second-line-requires : tie.Need-second-line-requires
-second-line-requires c κs = search needs
-
-slice-aggregate-result : tie.Need-slice-aggregate-result
-slice-aggregate-result c = search needs
-
 returns : tie.Need-returns
 returns c = ⊎-elim (λ e. rw e (c .second-line .ensures)) (λ e. rw e (c .second-line .ensures)) (c .before .match .keys1)
 
@@ -21,4 +15,4 @@ returns-2 c =
 
 pub second-text-spec : {M : Type 1} → statement M
 second-text-spec =
-    tie.close (tie.spec second-line-requires slice-aggregate-result returns returns-2)
+    tie.close (tie.spec (λ c κs. search needs) (λ c. search needs) returns returns-2)

@@ -5,20 +5,11 @@ use borrow.Author.Needs.{needs}
 use Rattle.deeds.proofs.ask.Statement.{statement}
 use Rattle.deeds.proofs.ask.Tie as tie
 
-is-unmet-requires : tie.Need-is-unmet-requires
-is-unmet-requires c κs = search needs
-
-refuse-requires : tie.Need-refuse-requires
-refuse-requires c κs = search needs
-
 returns : tie.Need-returns
 returns c =
     let k = c .before .before in
     let a = k .before .args in
     c .refuse .ensures ∙ barred (a .books) (Asks (a .when) (a .shown)) refl (sym (k .is-unmet .ensures) ∙ c .before .if1 .taken)
-
-finish-requires : tie.Need-finish-requires
-finish-requires c κs = search needs
 
 returns-2 : tie.Need-returns-2
 returns-2 c =
@@ -27,4 +18,4 @@ returns-2 c =
     c .finish .ensures ∙ allowed (a .books) (Asks (a .when) (a .shown)) refl (sym (k .is-unmet .ensures) ∙ c .before .if1 .left) refl
 
 pub ask-spec : {M : Type 1} → statement M
-ask-spec = tie.close (tie.spec is-unmet-requires refuse-requires returns finish-requires returns-2)
+ask-spec = tie.close (tie.spec (λ c κs. search needs) (λ c κs. search needs) returns (λ c κs. search needs) returns-2)

@@ -6,54 +6,15 @@ use borrow.Author.Needs.{needs}
 use Rattle.device.proofs.answer_call.Statement.{statement}
 use Rattle.device.proofs.answer_call.Tie as tie
 
-enum-told : tie.Need-enum-told
-enum-told c = search needs
-
-gave-requires : tie.Need-gave-requires
-gave-requires c κs = search needs
-
-enum-told-2 : tie.Need-enum-told-2
-enum-told-2 c = search needs
-
-put-byte-requires : tie.Need-put-byte-requires
-put-byte-requires c κs = search needs
-
-gave-requires-2 : tie.Need-gave-requires-2
-gave-requires-2 c κs = search needs
-
-enum-told-3 : tie.Need-enum-told-3
-enum-told-3 c = search needs
-
-again-requires : tie.Need-again-requires
-again-requires c κs = search needs
-
-gave-requires-3 : tie.Need-gave-requires-3
-gave-requires-3 c κs = search needs
-
-enum-known-call : tie.Need-enum-known-call
-enum-known-call c = search needs
-
-order-requires : tie.Need-order-requires
-order-requires c κs = search needs
-
 returns : tie.Need-returns
 returns c =
     let a = c .before .before .before .before .before .before .args in
     (call-quiet (a .device) (a .call) (now (a .frame)) (now (a .last)) (now (a .buf)) (c .gave .result) (c .gave .ensures) (c .before .enum-told .given .1), omega (arith, ap (λ z. z .count) (c .gave .ensures)))
 
-same-length : tie.Need-same-length
-same-length c = search needs
-
 returns-2 : tie.Need-returns-2
 returns-2 c =
     let a = c .before .before .before .before .before .before .before .before .before .before .args in
     (call-nak (a .device) (a .call) (now (a .frame)) (now (a .last)) (now (a .buf)) (c .gave2 .result) _ (c .gave2 .ensures) (c .before .before .before .put-byte .ensures) (c .before .before .before .before .before .enum-told2 .given .1), omega (arith, ap (λ z. z .count) (c .gave2 .ensures)))
-
-same-length-2 : tie.Need-same-length-2
-same-length-2 c = search needs
-
-same-length-3 : tie.Need-same-length-3
-same-length-3 c = search needs
 
 returns-3 : tie.Need-returns-3
 returns-3 c =
@@ -63,12 +24,6 @@ returns-3 c =
       call-again (a .device) (a .call) (now (a .frame)) (now (a .last)) (now (a .buf)) (c .gave3 .result) (told .result) _ (c .gave3 .ensures) (told .ensures .0) (told .ensures .1) (c .before .before .before .before .before .before .before .enum-told3 .given .1),
       omega (arith, ap (λ z. z .count) (c .gave3 .ensures), told .ensures .0, again-few (a .device .line .previous) (now (a .last)) (start .pre .lasts)),
     )
-
-same-length-4 : tie.Need-same-length-4
-same-length-4 c = search needs
-
-same-length-5 : tie.Need-same-length-5
-same-length-5 c = search needs
 
 returns-4 : tie.Need-returns-4
 returns-4 c =
@@ -80,22 +35,22 @@ pub answer-call-spec : {M : Type 1} → statement M
 answer-call-spec =
     tie.close
     (tie.spec
-    enum-told
-    gave-requires
-    enum-told-2
-    put-byte-requires
-    gave-requires-2
-    enum-told-3
-    again-requires
-    gave-requires-3
-    enum-known-call
-    order-requires
+    (λ c. search needs)
+    (λ c κs. search needs)
+    (λ c. search needs)
+    (λ c κs. search needs)
+    (λ c κs. search needs)
+    (λ c. search needs)
+    (λ c κs. search needs)
+    (λ c κs. search needs)
+    (λ c. search needs)
+    (λ c κs. search needs)
     returns
-    same-length
+    (λ c. search needs)
     returns-2
-    same-length-2
-    same-length-3
+    (λ c. search needs)
+    (λ c. search needs)
     returns-3
-    same-length-4
-    same-length-5
+    (λ c. search needs)
+    (λ c. search needs)
     returns-4)

@@ -10,22 +10,10 @@ use borrow.Author.Needs.{needs}
 use Rattle.device.proofs.hear.Statement.{statement}
 use Rattle.device.proofs.hear.Tie as tie
 
-gave-requires : tie.Need-gave-requires
-gave-requires c κs = search needs
-
 returns : tie.Need-returns
 returns c =
     let a = c .before .before .before .before .args in
     (part-short (record { device = a .device; frame = now (a .frame); last = now (a .last) }) (record { buffer = now (a .buf) }) (now (a .bytes)) (c .gave .result) (c .gave .ensures) (c .before .if1 .taken), (omega (arith, ap (λ z. z .count) (c .gave .ensures)), (omega arith, λ long some. absurd (omega (arith, long, c .before .if1 .taken)))))
-
-listen-requires : tie.Need-listen-requires
-listen-requires c κs = search needs
-
-answer-call-requires : tie.Need-answer-call-requires
-answer-call-requires c κs = search needs
-
-same-length : tie.Need-same-length
-same-length c = search needs
 
 returns-2 : tie.Need-returns-2
 returns-2 c =
@@ -46,4 +34,4 @@ returns-2 c =
 pub hear-spec : {M : Type 1} → statement M
 hear-spec =
     tie.close
-    (tie.spec gave-requires returns listen-requires answer-call-requires same-length returns-2)
+    (tie.spec (λ c κs. search needs) returns (λ c κs. search needs) (λ c κs. search needs) (λ c. search needs) returns-2)

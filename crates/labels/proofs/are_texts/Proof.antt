@@ -10,14 +10,8 @@ use borrow.Author.Needs.{needs}
 use Rattle.labels.proofs.are_texts.Statement.{statement}
 use Rattle.labels.proofs.are_texts.Tie as tie
 
-find-requires : tie.Need-find-requires
-find-requires c κs = search needs
-
 slice-aggregate-is-text : tie.Need-slice-aggregate-is-text
 slice-aggregate-is-text c = cut-length 0x0A (now (c .before .before .before .args .s)) (c .before .find .result) (c .before .find .ensures)
-
-is-text-requires : tie.Need-is-text-requires
-is-text-requires c κs = search needs
 
 returns : tie.Need-returns
 returns c =
@@ -38,12 +32,6 @@ sub-is-text c = omega (arith, place-within 0x0A (now (c .before .before .before 
 part-is-text-start : tie.Need-part-is-text-start
 part-is-text-start c = omega (arith, place-within 0x0A (now (c .before .before .before .before .before .before .args .s)))
 
-part-is-text-end : tie.Need-part-is-text-end
-part-is-text-end c = search needs
-
-is-text-requires-2 : tie.Need-is-text-requires-2
-is-text-requires-2 c κs = search needs
-
 returns-3 : tie.Need-returns-3
 returns-3 c =
     let at = c .before .before .before .before .before .before in
@@ -55,14 +43,14 @@ pub are-texts-spec : {M : Type 1} → statement M
 are-texts-spec =
     tie.close
     (tie.spec
-    find-requires
+    (λ c κs. search needs)
     slice-aggregate-is-text
-    is-text-requires
+    (λ c κs. search needs)
     returns
     returns-2
     add-next
     sub-is-text
     part-is-text-start
-    part-is-text-end
-    is-text-requires-2
+    (λ c. search needs)
+    (λ c κs. search needs)
     returns-3)

@@ -8,17 +8,11 @@ use borrow.Author.Needs.{needs}
 use Rattle.labels.proofs.behind_tab.Statement.{statement}
 use Rattle.labels.proofs.behind_tab.Tie as tie
 
-find-requires : tie.Need-find-requires
-find-requires c κs = search needs
-
 returns : tie.Need-returns
 returns c = no-tab (now (c .before .before .before .args .s)) (c .before .find .result) (c .before .find .ensures) (c .if1 .taken)
 
 slice-aggregate-are-texts : tie.Need-slice-aggregate-are-texts
 slice-aggregate-are-texts c = cut-length 0x09 (now (c .before .before .before .before .args .s)) (c .before .before .find .result) (c .before .before .find .ensures)
-
-are-texts-requires : tie.Need-are-texts-requires
-are-texts-requires c κs = search needs
 
 returns-2 : tie.Need-returns-2
 returns-2 c =
@@ -39,10 +33,10 @@ pub behind-tab-spec : {M : Type 1} → statement M
 behind-tab-spec =
     tie.close
     (tie.spec
-    find-requires
+    (λ c κs. search needs)
     returns
     slice-aggregate-are-texts
-    are-texts-requires
+    (λ c κs. search needs)
     returns-2
     add-t3
     returns-3)

@@ -7,9 +7,6 @@ use Rattle.line.proofs.asks.Lts as lts
 use Rattle.line.proofs.call_for.Reads as call-for-reads
 
 -- src/lib.rt:71:9
-call-for-requires : tie.Need-call-for-requires
-call-for-requires c κs = search needs
-
 -- src/lib.rt:68:1
 returns : tie.Need-returns
 returns c =
@@ -17,4 +14,4 @@ returns c =
     ap (λ z. record { line = record { reader = a .reader; previous = a .previous }; call = z; taken = a .taken }) (c .call-for .ensures)
 
 pub asks-spec : {M : Type 1} → statement M
-asks-spec = tie.close (tie.spec call-for-requires returns)
+asks-spec = tie.close (tie.spec (λ c κs. search needs) returns)

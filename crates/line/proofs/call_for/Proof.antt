@@ -8,21 +8,9 @@ use Rattle.line.proofs.call_for.Lts as lts
 use Rattle.line.proofs.is_repeat.Reads as is-repeat-reads
 
 -- src/lib.rt:80:27
-enum-told : tie.Need-enum-told
-enum-told c = search needs
-
 -- src/lib.rt:81:26
-enum-told-2 : tie.Need-enum-told-2
-enum-told-2 c = search needs
-
 -- src/lib.rt:82:24
-enum-known-heard : tie.Need-enum-known-heard
-enum-known-heard c = search needs
-
 -- src/lib.rt:83:16
-is-repeat-requires : tie.Need-is-repeat-requires
-is-repeat-requires c κs = search needs
-
 -- src/lib.rt:84:17
 returns : tie.Need-returns
 returns c =
@@ -30,13 +18,7 @@ returns c =
     calls-again (a .previous) (a .heard) _ _ _ (c .before .before .before .heard .given .1) (sym (c .before .is-repeat .ensures) ∙ c .if1 .taken)
 
 -- src/lib.rt:76:1
-returns-2 : tie.Need-returns-2
-returns-2 c = search needs
-
 -- src/lib.rt:76:1
-returns-3 : tie.Need-returns-3
-returns-3 c = search needs
-
 -- src/lib.rt:76:1
 returns-4 : tie.Need-returns-4
 returns-4 c =
@@ -47,11 +29,11 @@ pub call-for-spec : {M : Type 1} → statement M
 call-for-spec =
     tie.close
     (tie.spec
-    enum-told
-    enum-told-2
-    enum-known-heard
-    is-repeat-requires
+    (λ c. search needs)
+    (λ c. search needs)
+    (λ c. search needs)
+    (λ c κs. search needs)
     returns
-    returns-2
-    returns-3
+    (λ c. search needs)
+    (λ c. search needs)
     returns-4)

@@ -16,23 +16,8 @@ abbrev μ-loop : tie.MeasureT-loop
 loop-holds : tie.Need-loop-holds Inv-loop μ-loop
 loop-holds c = omega arith
 
-stands-requires : tie.Need-stands-requires Inv-loop μ-loop
-stands-requires c κs = search needs
-
 returns : tie.Need-returns Inv-loop μ-loop
 returns c = tt
-
-sub-call : tie.Need-sub-call Inv-loop μ-loop
-sub-call c = search needs
-
-part-call-start : tie.Need-part-call-start Inv-loop μ-loop
-part-call-start c = search needs
-
-part-call-end : tie.Need-part-call-end Inv-loop μ-loop
-part-call-end c = search needs
-
-call-requires : tie.Need-call-requires Inv-loop μ-loop
-call-requires c κs = search needs
 
 add-i : tie.Need-add-i Inv-loop μ-loop
 add-i c =
@@ -46,9 +31,6 @@ add-i c =
     let left = length-take (a .n - at .i) (drop (at .i) (now (a .chunk))) in
     let all = length-drop (at .i) (now (a .chunk)) in
     omega (arith, heard .ensures .0, left, all, test .loop-test .taken, long .if1 .left, start .good)
-
-stands-requires-2 : tie.Need-stands-requires-2 Inv-loop μ-loop
-stands-requires-2 c κs = search needs
 
 returns-2 : tie.Need-returns-2 Inv-loop μ-loop
 returns-2 c = tt
@@ -80,9 +62,6 @@ loop-again c =
     let all = length-drop (at .i) (now (a .chunk)) in
     omega (arith, heard .ensures .0, left, all, test .loop-test .taken, long .if1 .left)
 
-stands-requires-3 : tie.Need-stands-requires-3 Inv-loop μ-loop
-stands-requires-3 c κs = search needs
-
 returns-3 : tie.Need-returns-3 Inv-loop μ-loop
 returns-3 c = tt
 
@@ -93,16 +72,16 @@ answer-spec =
     Inv-loop
     μ-loop
     loop-holds
-    stands-requires
+    (λ c κs. search needs)
     returns
-    sub-call
-    part-call-start
-    part-call-end
-    call-requires
+    (λ c. search needs)
+    (λ c. search needs)
+    (λ c. search needs)
+    (λ c κs. search needs)
     add-i
-    stands-requires-2
+    (λ c κs. search needs)
     returns-2
     loop-less
     loop-again
-    stands-requires-3
+    (λ c κs. search needs)
     returns-3)

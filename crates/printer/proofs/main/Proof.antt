@@ -10,26 +10,11 @@ Inv-loop frame₀ last₀ device₀ turns₀ frame last device turns = Unit {0}
 abbrev μ-loop : tie.MeasureT-loop
 μ-loop frame₀ last₀ device₀ turns₀ frame last device turns = turns
 
-fresh-requires : tie.Need-fresh-requires Inv-loop μ-loop
-fresh-requires c κs = search needs
-
 loop-holds : tie.Need-loop-holds Inv-loop μ-loop
 loop-holds c = tt
 
-slice-aggregate-some : tie.Need-slice-aggregate-some Inv-loop μ-loop
-slice-aggregate-some c = search needs
-
-some-requires : tie.Need-some-requires Inv-loop μ-loop
-some-requires c κs = search needs
-
 returns : tie.Need-returns Inv-loop μ-loop
 returns c = tt
-
-slice-aggregate-answer : tie.Need-slice-aggregate-answer Inv-loop μ-loop
-slice-aggregate-answer c = search needs
-
-answer-requires : tie.Need-answer-requires Inv-loop μ-loop
-answer-requires c κs = search needs
 
 returns-2 : tie.Need-returns-2 Inv-loop μ-loop
 returns-2 c = tt
@@ -52,13 +37,13 @@ main-spec =
     (tie.spec
     Inv-loop
     μ-loop
-    fresh-requires
+    (λ c κs. search needs)
     loop-holds
-    slice-aggregate-some
-    some-requires
+    (λ c. search needs)
+    (λ c κs. search needs)
     returns
-    slice-aggregate-answer
-    answer-requires
+    (λ c. search needs)
+    (λ c κs. search needs)
     returns-2
     sub-turns
     loop-less

@@ -14,26 +14,14 @@ Inv-loop kind bytes array₀ reader₀ broken₀ whole₀ i₀ array reader brok
 abbrev μ-loop : tie.MeasureT-loop
 μ-loop kind bytes array₀ reader₀ broken₀ whole₀ i₀ array reader broken whole i = length bytes - i
 
-fresh-requires : tie.Need-fresh-requires Inv-loop μ-loop
-fresh-requires c κs = search needs
-
 loop-holds : tie.Need-loop-holds Inv-loop μ-loop
 loop-holds c = head-start (c .before .before .args .way) (now (c .before .before .args .bytes)) _ (c .fresh .ensures)
 
 shared-slice-read-take-byte : tie.Need-shared-slice-read-take-byte Inv-loop μ-loop
 shared-slice-read-take-byte c = omega arith
 
-take-byte-requires : tie.Need-take-byte-requires Inv-loop μ-loop
-take-byte-requires c κs = search needs
-
-broken-in-requires : tie.Need-broken-in-requires Inv-loop μ-loop
-broken-in-requires c κs = search needs
-
 add-broken : tie.Need-add-broken Inv-loop μ-loop
 add-broken c = omega (arith, c .broken-in .ensures, few-broken (c .before .before .take-byte .result .heard), c .before .before .before .before .before .before .loop .inv .broken-few)
-
-whole-in-requires : tie.Need-whole-in-requires Inv-loop μ-loop
-whole-in-requires c κs = search needs
 
 add-whole : tie.Need-add-whole Inv-loop μ-loop
 add-whole c = omega (arith, c .whole-in .ensures, few-whole (c .before .before .before .take-byte .result .heard), c .before .before .before .before .before .before .before .loop .inv .whole-few)
@@ -62,13 +50,13 @@ listen-spec =
     (tie.spec
     Inv-loop
     μ-loop
-    fresh-requires
+    (λ c κs. search needs)
     loop-holds
     shared-slice-read-take-byte
-    take-byte-requires
-    broken-in-requires
+    (λ c κs. search needs)
+    (λ c κs. search needs)
     add-broken
-    whole-in-requires
+    (λ c κs. search needs)
     add-whole
     add-i
     loop-less

@@ -13,12 +13,6 @@ use borrow.Author.Needs.{needs}
 use Rattle.reader.proofs.take_byte.Statement.{statement}
 use Rattle.reader.proofs.take_byte.Tie as tie
 
-first-requires : tie.Need-first-requires
-first-requires c κs = search needs
-
-started-requires : tie.Need-started-requires
-started-requires c κs = search needs
-
 returns : tie.Need-returns
 returns c =
     let s = c .before .before .before .before .before in
@@ -29,9 +23,6 @@ returns c =
     (c .started .ensures ∙ ap (λ e. takenOf (record { place = inside 0 []; event = e })) (sym (starts (a .reader) (now (a .array)) size)))
     refl
 
-fresh-requires : tie.Need-fresh-requires
-fresh-requires c κs = search needs
-
 returns-2 : tie.Need-returns-2
 returns-2 c =
     let s = c .before .before .before .before .before .before in
@@ -40,9 +31,6 @@ returns-2 c =
     (read-other (a .way) (placeOf (a .reader) (now (a .array))) (a .b) (c .before .before .if1 .left)
     ∙ ap (λ p. readOther (a .way) p (a .b)) (place-out (a .reader) (now (a .array)) (not-true _ (c .before .if2 .taken))))
     (rw (c .fresh .ensures)) refl
-
-take-len-requires : tie.Need-take-len-requires
-take-len-requires c κs = search needs
 
 returns-3 : tie.Need-returns-3
 returns-3 c =
@@ -53,9 +41,6 @@ returns-3 c =
     ∙ ap (λ p. readOther (a .way) p (a .b)) (place-in (a .reader) (now (a .array)) (not-false _ (c .before .before .before .if2 .left)))
     ∙ ap (λ n. readOther (a .way) (inside (a .reader .sum) (take n (now (a .array)))) (a .b)) (c .before .before .if3 .taken))
     (c .take-len .ensures .0) (c .take-len .ensures .1)
-
-data-count-requires : tie.Need-data-count-requires
-data-count-requires c κs = search needs
 
 take-behind-requires : tie.Need-take-behind-requires
 take-behind-requires c κs =
@@ -83,13 +68,13 @@ pub take-byte-spec : {M : Type 1} → statement M
 take-byte-spec =
     tie.close
     (tie.spec
-    first-requires
-    started-requires
+    (λ c κs. search needs)
+    (λ c κs. search needs)
     returns
-    fresh-requires
+    (λ c κs. search needs)
     returns-2
-    take-len-requires
+    (λ c κs. search needs)
     returns-3
-    data-count-requires
+    (λ c κs. search needs)
     take-behind-requires
     returns-4)

@@ -11,18 +11,6 @@ use borrow.Author.Needs.{needs}
 use Rattle.reader.proofs.take_ending.Statement.{statement}
 use Rattle.reader.proofs.take_ending.Tie as tie
 
-sub-at : tie.Need-sub-at
-sub-at c = search needs
-
-sub-at-2 : tie.Need-sub-at-2
-sub-at-2 c = search needs
-
-suits-ending-requires : tie.Need-suits-ending-requires
-suits-ending-requires c κs = search needs
-
-broken-requires : tie.Need-broken-requires
-broken-requires c κs = search needs
-
 returns : tie.Need-returns
 returns c =
     let s = c .before .before .before in
@@ -31,15 +19,6 @@ returns c =
     (ending-broken (a .way) (a .n) (a .count) (now (a .array)) (s .pre .0) (s .fits .count .fits) (a .sum) (a .b) (omega (arith, s .pre .1))
     (rw (s .pre .1 .0) at (sym (c .before .before .suits-ending .ensures) ∙ not-true _ (c .before .if1 .taken))))
     (c .broken .ensures) refl
-
-fresh-requires : tie.Need-fresh-requires
-fresh-requires c κs = search needs
-
-element-copy-out-t16 : tie.Need-element-copy-out-t16
-element-copy-out-t16 c = search needs
-
-element-copy-out-t19 : tie.Need-element-copy-out-t19
-element-copy-out-t19 c = search needs
 
 returns-2 : tie.Need-returns-2
 returns-2 c =
@@ -50,9 +29,6 @@ returns-2 c =
     reads (now (a .array)) _ _ _ _
     (ending-whole (a .way) (a .n) (a .count) (now (a .array)) (s .pre .0) (s .fits .count .fits) (a .sum) (a .b) past (rw (s .pre .1 .0) at (sym (c .before .before .before .before .before .suits-ending .ensures) ∙ not-false _ (c .before .before .before .before .if1 .left))) four)
     (rw (c .before .before .fresh .ensures, heard-whole (a .way) (a .n) (a .count) (now (a .array)) (s .pre .0) (s .fits .count .fits) (a .sum) (a .b) past four) refl) refl
-
-element-write-array : tie.Need-element-write-array
-element-write-array c = search needs
 
 add-t23 : tie.Need-add-t23
 add-t23 c =
@@ -72,15 +48,15 @@ pub take-ending-spec : {M : Type 1} → statement M
 take-ending-spec =
     tie.close
     (tie.spec
-    sub-at
-    sub-at-2
-    suits-ending-requires
-    broken-requires
+    (λ c. search needs)
+    (λ c. search needs)
+    (λ c κs. search needs)
+    (λ c κs. search needs)
     returns
-    fresh-requires
-    element-copy-out-t16
-    element-copy-out-t19
+    (λ c κs. search needs)
+    (λ c. search needs)
+    (λ c. search needs)
     returns-2
-    element-write-array
+    (λ c. search needs)
     add-t23
     returns-3)

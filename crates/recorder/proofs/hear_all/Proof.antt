@@ -16,28 +16,10 @@ Inv-loop bytes out₀ orders₀ frame₀ last₀ buf₀ device₀ written₀ lis
 abbrev μ-loop : tie.MeasureT-loop
 μ-loop bytes out₀ orders₀ frame₀ last₀ buf₀ device₀ written₀ listed₀ i₀ out orders frame last buf device written listed i = length bytes - i
 
-fresh-requires : tie.Need-fresh-requires Inv-loop μ-loop
-fresh-requires c κs = search needs
-
 loop-holds : tie.Need-loop-holds Inv-loop μ-loop
 loop-holds c =
     let a = c .before .before .before .before .args in
     head-start (now (a .bytes)) (now (a .out)) (now (a .orders)) _ (c .fresh .ensures)
-
-sub-part : tie.Need-sub-part Inv-loop μ-loop
-sub-part c = search needs
-
-part-part-start : tie.Need-part-part-start Inv-loop μ-loop
-part-part-start c = search needs
-
-part-part-end : tie.Need-part-part-end Inv-loop μ-loop
-part-part-end c = search needs
-
-slice-aggregate-hear : tie.Need-slice-aggregate-hear Inv-loop μ-loop
-slice-aggregate-hear c = search needs
-
-hear-requires : tie.Need-hear-requires Inv-loop μ-loop
-hear-requires c κs = search needs
 
 slice-aggregate-list-call : tie.Need-slice-aggregate-list-call Inv-loop μ-loop
 slice-aggregate-list-call c =
@@ -57,12 +39,6 @@ list-call-requires c κs =
     let heard = heard-at .hear in
     (part-here (now (a .bytes)) (now (a .out)) (now (a .orders)) (at .out) (at .orders) (record { device = at .device; frame = at .frame; last = at .last }) (record { buffer = at .buf }) (at .written) (at .listed) (at .i) (at .inv) (test-at .loop-test .taken) _ (heard .ensures .0) (heard .ensures .1 .0) .frames, at .inv .listed-in)
 
-sub-append : tie.Need-sub-append Inv-loop μ-loop
-sub-append c = search needs
-
-part-append-start : tie.Need-part-append-start Inv-loop μ-loop
-part-append-start c = search needs
-
 part-append-end : tie.Need-part-append-end Inv-loop μ-loop
 part-append-end c =
     let heard-at = c .before .before .before .before .before .before .before .before .before .before in
@@ -71,9 +47,6 @@ part-append-end c =
     let a = test-at .before .before .before .before .before .before .args in
     let heard = heard-at .hear in
     omega (arith, part-here (now (a .bytes)) (now (a .out)) (now (a .orders)) (at .out) (at .orders) (record { device = at .device; frame = at .frame; last = at .last }) (record { buffer = at .buf }) (at .written) (at .listed) (at .i) (at .inv) (test-at .loop-test .taken) _ (heard .ensures .0) (heard .ensures .1 .0) .room, at .inv .room, heard .ensures .1 .0)
-
-append-requires : tie.Need-append-requires Inv-loop μ-loop
-append-requires c κs = search needs
 
 add-i : tie.Need-add-i Inv-loop μ-loop
 add-i c =
@@ -120,19 +93,19 @@ hear-all-spec =
     (tie.spec
     Inv-loop
     μ-loop
-    fresh-requires
+    (λ c κs. search needs)
     loop-holds
-    sub-part
-    part-part-start
-    part-part-end
-    slice-aggregate-hear
-    hear-requires
+    (λ c. search needs)
+    (λ c. search needs)
+    (λ c. search needs)
+    (λ c. search needs)
+    (λ c κs. search needs)
     slice-aggregate-list-call
     list-call-requires
-    sub-append
-    part-append-start
+    (λ c. search needs)
+    (λ c. search needs)
     part-append-end
-    append-requires
+    (λ c κs. search needs)
     add-i
     loop-less
     loop-again

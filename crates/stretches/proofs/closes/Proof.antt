@@ -8,53 +8,20 @@ use borrow.Author.Needs.{needs}
 use Rattle.stretches.proofs.closes.Statement.{statement}
 use Rattle.stretches.proofs.closes.Tie as tie
 
-bcc-bytes-requires : tie.Need-bcc-bytes-requires
-bcc-bytes-requires c κs = search needs
-
-shared-slice-read-if1 : tie.Need-shared-slice-read-if1
-shared-slice-read-if1 c = search needs
-
 returns : tie.Need-returns
 returns c = λ e. absurd (false≢true e)
-
-shared-slice-read-if2 : tie.Need-shared-slice-read-if2
-shared-slice-read-if2 c = search needs
-
-array-read-if2 : tie.Need-array-read-if2
-array-read-if2 c = search needs
 
 returns-2 : tie.Need-returns-2
 returns-2 c = λ e. absurd (false≢true e)
 
-shared-slice-read-if3 : tie.Need-shared-slice-read-if3
-shared-slice-read-if3 c = search needs
-
-array-read-if3 : tie.Need-array-read-if3
-array-read-if3 c = search needs
-
 returns-3 : tie.Need-returns-3
 returns-3 c = λ e. absurd (false≢true e)
-
-shared-slice-read-if4 : tie.Need-shared-slice-read-if4
-shared-slice-read-if4 c = search needs
-
-array-read-if4 : tie.Need-array-read-if4
-array-read-if4 c = search needs
 
 returns-4 : tie.Need-returns-4
 returns-4 c = λ e. absurd (false≢true e)
 
-shared-slice-read-if5 : tie.Need-shared-slice-read-if5
-shared-slice-read-if5 c = search needs
-
-array-read-if5 : tie.Need-array-read-if5
-array-read-if5 c = search needs
-
 returns-5 : tie.Need-returns-5
 returns-5 c = λ e. absurd (false≢true e)
-
-shared-slice-read-result : tie.Need-shared-slice-read-result
-shared-slice-read-result c = search needs
 
 returns-6 : tie.Need-returns-6
 returns-6 c e =
@@ -74,20 +41,20 @@ pub closes-spec : {M : Type 1} → statement M
 closes-spec =
     tie.close
     (tie.spec
-    bcc-bytes-requires
-    shared-slice-read-if1
+    (λ c κs. search needs)
+    (λ c. search needs)
     returns
-    shared-slice-read-if2
-    array-read-if2
+    (λ c. search needs)
+    (λ c. search needs)
     returns-2
-    shared-slice-read-if3
-    array-read-if3
+    (λ c. search needs)
+    (λ c. search needs)
     returns-3
-    shared-slice-read-if4
-    array-read-if4
+    (λ c. search needs)
+    (λ c. search needs)
     returns-4
-    shared-slice-read-if5
-    array-read-if5
+    (λ c. search needs)
+    (λ c. search needs)
     returns-5
-    shared-slice-read-result
+    (λ c. search needs)
     returns-6)

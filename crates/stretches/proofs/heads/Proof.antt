@@ -9,14 +9,8 @@ use Rattle.stretches.proofs.heads.Tie as tie
 returns : tie.Need-returns
 returns c = λ e. absurd (false≢true e)
 
-shared-slice-read-if2 : tie.Need-shared-slice-read-if2
-shared-slice-read-if2 c = search needs
-
 returns-2 : tie.Need-returns-2
 returns-2 c = λ e. absurd (false≢true e)
-
-shared-slice-read-if3 : tie.Need-shared-slice-read-if3
-shared-slice-read-if3 c = search needs
 
 cast-if3 : tie.Need-cast-if3
 cast-if3 c = omega (arith, c .shared-slice-known3 .given 1)
@@ -27,20 +21,8 @@ add-if3 c = omega (arith, c .before .before .before .before .before .pre)
 returns-3 : tie.Need-returns-3
 returns-3 c = λ e. absurd (false≢true e)
 
-shared-slice-read-may-stand : tie.Need-shared-slice-read-may-stand
-shared-slice-read-may-stand c = search needs
-
-may-stand-requires : tie.Need-may-stand-requires
-may-stand-requires c κs = search needs
-
 returns-4 : tie.Need-returns-4
 returns-4 c = λ e. absurd (false≢true e)
-
-shared-slice-read-may-stand-2 : tie.Need-shared-slice-read-may-stand-2
-shared-slice-read-may-stand-2 c = search needs
-
-may-stand-requires-2 : tie.Need-may-stand-requires-2
-may-stand-requires-2 c κs = search needs
 
 returns-5 : tie.Need-returns-5
 returns-5 c e =
@@ -58,15 +40,15 @@ heads-spec =
     tie.close
     (tie.spec
     returns
-    shared-slice-read-if2
+    (λ c. search needs)
     returns-2
-    shared-slice-read-if3
+    (λ c. search needs)
     cast-if3
     add-if3
     returns-3
-    shared-slice-read-may-stand
-    may-stand-requires
+    (λ c. search needs)
+    (λ c κs. search needs)
     returns-4
-    shared-slice-read-may-stand-2
-    may-stand-requires-2
+    (λ c. search needs)
+    (λ c κs. search needs)
     returns-5)

@@ -22,14 +22,8 @@ loop-holds c =
 shared-slice-read-take-byte : tie.Need-shared-slice-read-take-byte Inv-loop μ-loop
 shared-slice-read-take-byte c = omega (arith, c .before .before .loop-test .taken)
 
-take-byte-requires : tie.Need-take-byte-requires Inv-loop μ-loop
-take-byte-requires c κs = search needs
-
 add-i : tie.Need-add-i Inv-loop μ-loop
 add-i c = omega arith
-
-is-silent-requires : tie.Need-is-silent-requires Inv-loop μ-loop
-is-silent-requires c κs = search needs
 
 returns : tie.Need-returns Inv-loop μ-loop
 returns c =
@@ -63,9 +57,9 @@ take-each-spec =
     μ-loop
     loop-holds
     shared-slice-read-take-byte
-    take-byte-requires
+    (λ c κs. search needs)
     add-i
-    is-silent-requires
+    (λ c κs. search needs)
     returns
     loop-less
     loop-again

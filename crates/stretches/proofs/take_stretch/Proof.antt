@@ -6,36 +6,6 @@ use borrow.Author.Needs.{needs}
 use Rattle.stretches.proofs.take_stretch.Statement.{statement}
 use Rattle.stretches.proofs.take_stretch.Tie as tie
 
-take-each-requires : tie.Need-take-each-requires
-take-each-requires c κs = search needs
-
-returns : tie.Need-returns
-returns c = search needs
-
-before-start-requires : tie.Need-before-start-requires
-before-start-requires c κs = search needs
-
-sub-rest : tie.Need-sub-rest
-sub-rest c = search needs
-
-part-rest-start : tie.Need-part-rest-start
-part-rest-start c = search needs
-
-part-rest-end : tie.Need-part-rest-end
-part-rest-end c = search needs
-
-announced-requires : tie.Need-announced-requires
-announced-requires c κs = search needs
-
-leads-requires : tie.Need-leads-requires
-leads-requires c κs = search needs
-
-take-each-requires-2 : tie.Need-take-each-requires-2
-take-each-requires-2 c κs = search needs
-
-returns-2 : tie.Need-returns-2
-returns-2 c = search needs
-
 shared-slice-read-seq : tie.Need-shared-slice-read-seq
 shared-slice-read-seq c =
     let found = c .before in
@@ -48,32 +18,11 @@ shared-slice-read-code c =
     let whole = found .before .leads .ensures (not-false _ (found .if2 .left)) in
     omega (arith, whole .room)
 
-add-end : tie.Need-add-end
-add-end c = search needs
-
-sub-put-bytes : tie.Need-sub-put-bytes
-sub-put-bytes c = search needs
-
-part-put-bytes-start : tie.Need-part-put-bytes-start
-part-put-bytes-start c = search needs
-
 part-put-bytes-end : tie.Need-part-put-bytes-end
 part-put-bytes-end c =
     let found = c .before .before .before in
     let whole = found .before .leads .ensures (not-false _ (found .if2 .left)) in
     omega (arith, whole .room)
-
-put-bytes-requires : tie.Need-put-bytes-requires
-put-bytes-requires c κs = search needs
-
-fresh-requires : tie.Need-fresh-requires
-fresh-requires c κs = search needs
-
-add-t13 : tie.Need-add-t13
-add-t13 c = search needs
-
-add-t15 : tie.Need-add-t15
-add-t15 c = search needs
 
 returns-3 : tie.Need-returns-3
 returns-3 c =
@@ -87,24 +36,24 @@ pub take-stretch-spec : {M : Type 1} → statement M
 take-stretch-spec =
     tie.close
     (tie.spec
-    take-each-requires
-    returns
-    before-start-requires
-    sub-rest
-    part-rest-start
-    part-rest-end
-    announced-requires
-    leads-requires
-    take-each-requires-2
-    returns-2
+    (λ c κs. search needs)
+    (λ c. search needs)
+    (λ c κs. search needs)
+    (λ c. search needs)
+    (λ c. search needs)
+    (λ c. search needs)
+    (λ c κs. search needs)
+    (λ c κs. search needs)
+    (λ c κs. search needs)
+    (λ c. search needs)
     shared-slice-read-seq
     shared-slice-read-code
-    add-end
-    sub-put-bytes
-    part-put-bytes-start
+    (λ c. search needs)
+    (λ c. search needs)
+    (λ c. search needs)
     part-put-bytes-end
-    put-bytes-requires
-    fresh-requires
-    add-t13
-    add-t15
+    (λ c κs. search needs)
+    (λ c κs. search needs)
+    (λ c. search needs)
+    (λ c. search needs)
     returns-3)

@@ -16,9 +16,6 @@ Inv-loop part₀ src n i₀ part i = (i ≤ n) × (sets part i (drop i src) ≡ 
 abbrev μ-loop : tie.MeasureT-loop
 μ-loop part₀ src n i₀ part i = n - i
 
-least-size-requires : tie.Need-least-size-requires Inv-loop μ-loop
-least-size-requires c κs = search needs
-
 loop-holds : tie.Need-loop-holds Inv-loop μ-loop
 loop-holds c = (omega arith, refl)
 
@@ -61,7 +58,7 @@ copy-spec =
     (tie.spec
     Inv-loop
     μ-loop
-    least-size-requires
+    (λ c κs. search needs)
     loop-holds
     shared-slice-read-part
     slice-write-part

@@ -7,21 +7,6 @@ use borrow.Author.Needs.{needs}
 use Rattle.text.proofs.put_field.Statement.{statement}
 use Rattle.text.proofs.put_field.Tie as tie
 
-sub-write-digits : tie.Need-sub-write-digits
-sub-write-digits c = search needs
-
-part-write-digits-start : tie.Need-part-write-digits-start
-part-write-digits-start c = search needs
-
-part-write-digits-end : tie.Need-part-write-digits-end
-part-write-digits-end c = search needs
-
-write-digits-requires : tie.Need-write-digits-requires
-write-digits-requires c κs = search needs
-
-same-length : tie.Need-same-length
-same-length c = search needs
-
 returns : tie.Need-returns
 returns c =
     let s = c .before .before .before .before .before .before in
@@ -36,10 +21,10 @@ pub put-field-spec : {M : Type 1} → statement M
 put-field-spec =
     tie.close
     (tie.spec
-    sub-write-digits
-    part-write-digits-start
-    part-write-digits-end
-    write-digits-requires
-    same-length
+    (λ c. search needs)
+    (λ c. search needs)
+    (λ c. search needs)
+    (λ c κs. search needs)
+    (λ c. search needs)
     returns
     returns-2)

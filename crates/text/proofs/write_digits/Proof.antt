@@ -28,9 +28,6 @@ cast-put-byte c = omega arith
 add-put-byte : tie.Need-add-put-byte Inv-loop μ-loop
 add-put-byte c = omega arith
 
-put-byte-requires : tie.Need-put-byte-requires Inv-loop μ-loop
-put-byte-requires c κs = search needs
-
 loop-less : tie.Need-loop-less Inv-loop μ-loop
 loop-less c = omega arith
 
@@ -60,7 +57,7 @@ write-digits-spec =
     sub-i
     cast-put-byte
     add-put-byte
-    put-byte-requires
+    (λ c κs. search needs)
     loop-less
     loop-again
     same-length

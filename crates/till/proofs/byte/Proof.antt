@@ -20,12 +20,6 @@ returns c =
       ),
     )
 
-enum-known-slot : tie.Need-enum-known-slot
-enum-known-slot c = search needs
-
-enum-told : tie.Need-enum-told
-enum-told c = search needs
-
 returns-2 : tie.Need-returns-2
 returns-2 c =
     let a = c .before .before .before .before .args in
@@ -37,12 +31,6 @@ returns-2 c =
         puts (a .till) (now (a .buf)) _ (record { till = a .till; word = Idle }) _ _ e refl,
       ),
     )
-
-hear-requires : tie.Need-hear-requires
-hear-requires c κs = search needs
-
-same-length : tie.Need-same-length
-same-length c = search needs
 
 returns-3 : tie.Need-returns-3
 returns-3 c =
@@ -62,4 +50,4 @@ returns-3 c =
 pub byte-spec : {M : Type 1} → statement M
 byte-spec =
     tie.close
-    (tie.spec returns enum-known-slot enum-told returns-2 hear-requires same-length returns-3)
+    (tie.spec returns (λ c. search needs) (λ c. search needs) returns-2 (λ c κs. search needs) (λ c. search needs) returns-3)

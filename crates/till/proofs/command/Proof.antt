@@ -17,12 +17,6 @@ returns c =
       ),
     )
 
-enum-told : tie.Need-enum-told
-enum-told c = search needs
-
-enum-told-2 : tie.Need-enum-told-2
-enum-told-2 c = search needs
-
 returns-2 : tie.Need-returns-2
 returns-2 c =
     let a = c .before .before .before .before .before .args in (
@@ -32,12 +26,6 @@ returns-2 c =
         λ answer. puts (a .till) (now (a .buf)) _ (record { till = a .till; word = NotSent }) _ _ (command-held (a .till) (now (a .frame)) answer (now (a .buf)) (c .before .before .if1 .left) (a .code) (now (a .content)) _ (c .enum-told2 .given .1)) refl,
       ),
     )
-
-send-requires : tie.Need-send-requires
-send-requires c κs = search needs
-
-same-length : tie.Need-same-length
-same-length c = search needs
 
 returns-3 : tie.Need-returns-3
 returns-3 c =
@@ -55,4 +43,4 @@ returns-3 c =
 pub command-spec : {M : Type 1} → statement M
 command-spec =
     tie.close
-    (tie.spec returns enum-told enum-told-2 returns-2 send-requires same-length returns-3)
+    (tie.spec returns (λ c. search needs) (λ c. search needs) returns-2 (λ c κs. search needs) (λ c. search needs) returns-3)

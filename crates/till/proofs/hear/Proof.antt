@@ -12,15 +12,6 @@ use borrow.Author.Needs.{needs}
 use Rattle.till.proofs.hear.Statement.{statement}
 use Rattle.till.proofs.hear.Tie as tie
 
-nak-outside-requires : tie.Need-nak-outside-requires
-nak-outside-requires c κs = search needs
-
-failed-try-requires : tie.Need-failed-try-requires
-failed-try-requires c κs = search needs
-
-same-length : tie.Need-same-length
-same-length c = search needs
-
 returns : tie.Need-returns
 returns c =
     let q = c .before .before .before .before .before in
@@ -30,21 +21,6 @@ returns c =
     (c .before .before .failed-try .ensures .0)
     (fails-keeps (a .next) (a .a) (now (a .frame)) (now (a .answer)))
     (c .before .before .failed-try .ensures .1)
-
-take-byte-requires : tie.Need-take-byte-requires
-take-byte-requires c κs = search needs
-
-enum-told : tie.Need-enum-told
-enum-told c = search needs
-
-goes-on-requires : tie.Need-goes-on-requires
-goes-on-requires c κs = search needs
-
-enum-told-2 : tie.Need-enum-told-2
-enum-told-2 c = search needs
-
-goes-on-requires-2 : tie.Need-goes-on-requires-2
-goes-on-requires-2 c κs = search needs
 
 returns-2 : tie.Need-returns-2
 returns-2 c =
@@ -57,18 +33,6 @@ returns-2 c =
     (hear-anew (a .next) (a .a) (now (a .frame)) (now (a .answer)) (a .b) n h (c .before .if2 .taken))
     (c .goes-on2 .ensures .1 ∙ goes-on (a .next) (a .a) (now (a .frame)) (now (a .answer)) (a .b) (k .before .before .before .before .before .before .before .before .pre) (c .goes-on2 .ensures .0) (t .result) (ap (λ (z : Taken). z .reader) (t .ensures .0)))
     (t .ensures .1) refl
-
-failed-try-requires-2 : tie.Need-failed-try-requires-2
-failed-try-requires-2 c κs = search needs
-
-enum-known-heard : tie.Need-enum-known-heard
-enum-known-heard c = search needs
-
-failed-try-requires-3 : tie.Need-failed-try-requires-3
-failed-try-requires-3 c κs = search needs
-
-same-length-2 : tie.Need-same-length-2
-same-length-2 c = search needs
 
 returns-3 : tie.Need-returns-3
 returns-3 c =
@@ -84,12 +48,6 @@ returns-3 c =
     (c .before .before .failed-try3 .ensures .0)
     (kept-outside (now (a .answer)) _ _ (t .ensures .1) (f .left) ∙ fails-keeps (a .next) (a .a) (now (a .frame)) (now (a .answer)))
     (c .before .before .failed-try3 .ensures .1)
-
-failed-try-requires-4 : tie.Need-failed-try-requires-4
-failed-try-requires-4 c κs = search needs
-
-same-length-3 : tie.Need-same-length-3
-same-length-3 c = search needs
 
 returns-4 : tie.Need-returns-4
 returns-4 c =
@@ -131,9 +89,6 @@ returns-5 c =
     (c .goes-on .ensures .1 ∙ goes-on (a .next) (a .a) (now (a .frame)) (now (a .answer)) (a .b) (k .before .before .before .before .before .before .before .before .pre) (c .goes-on .ensures .0) (t .result) (ap (λ (z : Taken). z .reader) (t .ensures .0)))
     (t .ensures .1) refl
 
-same-length-4 : tie.Need-same-length-4
-same-length-4 c = search needs
-
 returns-6 : tie.Need-returns-6
 returns-6 c =
     let k = c .before .before .before .before .before .before .before .before in
@@ -146,9 +101,6 @@ returns-6 c =
     (c .before .before .failed-try2 .ensures .0)
     (kept-outside (now (a .answer)) _ _ (t .ensures .1) (broken-outside ToTill (placeOf (a .a .ear .reader) (now (a .answer))) (a .b) (ne-eqb (a .b) 0x01 (c .before .before .before .before .if2 .left)) h) ∙ fails-keeps (a .next) (a .a) (now (a .frame)) (now (a .answer)))
     (c .before .before .failed-try2 .ensures .1)
-
-same-length-5 : tie.Need-same-length-5
-same-length-5 c = search needs
 
 returns-7 : tie.Need-returns-7
 returns-7 c =
@@ -172,27 +124,27 @@ pub hear-spec : {M : Type 1} → statement M
 hear-spec =
     tie.close
     (tie.spec
-    nak-outside-requires
-    failed-try-requires
-    same-length
+    (λ c κs. search needs)
+    (λ c κs. search needs)
+    (λ c. search needs)
     returns
-    take-byte-requires
-    enum-told
-    goes-on-requires
-    enum-told-2
-    goes-on-requires-2
+    (λ c κs. search needs)
+    (λ c. search needs)
+    (λ c κs. search needs)
+    (λ c. search needs)
+    (λ c κs. search needs)
     returns-2
-    failed-try-requires-2
-    enum-known-heard
-    failed-try-requires-3
-    same-length-2
+    (λ c κs. search needs)
+    (λ c. search needs)
+    (λ c κs. search needs)
+    (λ c. search needs)
     returns-3
-    failed-try-requires-4
-    same-length-3
+    (λ c κs. search needs)
+    (λ c. search needs)
     returns-4
     answered-requires
     returns-5
-    same-length-4
+    (λ c. search needs)
     returns-6
-    same-length-5
+    (λ c. search needs)
     returns-7)

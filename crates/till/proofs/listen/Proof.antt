@@ -3,11 +3,8 @@ use borrow.Author.Needs.{needs}
 use Rattle.till.proofs.listen.Statement.{statement}
 use Rattle.till.proofs.listen.Tie as tie
 
-fresh-requires : tie.Need-fresh-requires
-fresh-requires c κs = search needs
-
 returns : tie.Need-returns
 returns c = ap (λ r. record { reader = r }) (c .fresh .ensures)
 
 pub listen-spec : {M : Type 1} → statement M
-listen-spec = tie.close (tie.spec fresh-requires returns)
+listen-spec = tie.close (tie.spec (λ c κs. search needs) returns)

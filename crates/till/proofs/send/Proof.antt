@@ -10,42 +10,12 @@ use borrow.Author.Needs.{needs}
 use Rattle.till.proofs.send.Statement.{statement}
 use Rattle.till.proofs.send.Tie as tie
 
-build-command-requires : tie.Need-build-command-requires
-build-command-requires c κs = search needs
-
-enum-told : tie.Need-enum-told
-enum-told c = search needs
-
-free-requires : tie.Need-free-requires
-free-requires c κs = search needs
-
-enum-told-2 : tie.Need-enum-told-2
-enum-told-2 c = search needs
-
-free-requires-2 : tie.Need-free-requires-2
-free-requires-2 c κs = search needs
-
-enum-known-built : tie.Need-enum-known-built
-enum-known-built c = search needs
-
 cast-count : tie.Need-cast-count
 cast-count c =
     let a = c .before .before .before .before .before .before .before .args in
     let size : length (now (a .frame)) ≡ 256 = omega arith in
     let built = built-frame (a .next) (a .code) (now (a .content)) (now (a .frame)) size _ _ _ (c .before .built .given .1) (c .before .before .before .build-command .ensures) in
     omega (arith, built .1 .0, frame-size ToDevice (commandOf (a .next) (a .code) (now (a .content))) (built .0) .1)
-
-hand-out-requires : tie.Need-hand-out-requires
-hand-out-requires c κs = search needs
-
-listen-requires : tie.Need-listen-requires
-listen-requires c κs = search needs
-
-seq-after-requires : tie.Need-seq-after-requires
-seq-after-requires c κs = search needs
-
-held-requires : tie.Need-held-requires
-held-requires c κs = search needs
 
 returns : tie.Need-returns
 returns c =
@@ -61,9 +31,6 @@ returns-2 c =
     let all = says-not (a .next) (a .code) (now (a .content)) (now (a .frame)) size (built .0) _ (now (a .buf)) (built .1) in
     (c .free2 .ensures ∙ all .0, all .1)
 
-same-length : tie.Need-same-length
-same-length c = search needs
-
 returns-3 : tie.Need-returns-3
 returns-3 c =
     let handed = c .before .before .before .before .before in
@@ -78,18 +45,18 @@ pub send-spec : {M : Type 1} → statement M
 send-spec =
     tie.close
     (tie.spec
-    build-command-requires
-    enum-told
-    free-requires
-    enum-told-2
-    free-requires-2
-    enum-known-built
+    (λ c κs. search needs)
+    (λ c. search needs)
+    (λ c κs. search needs)
+    (λ c. search needs)
+    (λ c κs. search needs)
+    (λ c. search needs)
     cast-count
-    hand-out-requires
-    listen-requires
-    seq-after-requires
-    held-requires
+    (λ c κs. search needs)
+    (λ c κs. search needs)
+    (λ c κs. search needs)
+    (λ c κs. search needs)
     returns
     returns-2
-    same-length
+    (λ c. search needs)
     returns-3)

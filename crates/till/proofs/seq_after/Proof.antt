@@ -6,11 +6,8 @@ use Rattle.till.proofs.seq_after.Tie as tie
 returns : tie.Need-returns
 returns c = rw (c .if1 .taken)
 
-add-result : tie.Need-add-result
-add-result c = search needs
-
 returns-2 : tie.Need-returns-2
 returns-2 c = goes-up (c .before .args .seq) (c .if1 .left)
 
 pub seq-after-spec : {M : Type 1} → statement M
-seq-after-spec = tie.close (tie.spec returns add-result returns-2)
+seq-after-spec = tie.close (tie.spec returns (λ c. search needs) returns-2)

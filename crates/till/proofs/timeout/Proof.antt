@@ -15,12 +15,6 @@ returns c =
       λ answer. puts (a .till) (now (a .buf)) _ (record { till = a .till; word = TooShort }) _ _ (too-short (a .till) (now (a .frame)) answer (now (a .buf)) timeout (c .if1 .taken)) refl,
     )
 
-enum-known-slot : tie.Need-enum-known-slot
-enum-known-slot c = search needs
-
-enum-told : tie.Need-enum-told
-enum-told c = search needs
-
 returns-2 : tie.Need-returns-2
 returns-2 c =
     let a = c .before .before .before .before .args in
@@ -28,12 +22,6 @@ returns-2 c =
       λ answer. says (a .till) (now (a .buf)) (now (a .buf)) _ _ _ (timeout-idle (a .till) (now (a .frame)) answer (now (a .buf)) (c .before .before .if1 .left) free) (idle-stays (a .till) (now (a .frame)) answer free),
       λ answer. puts (a .till) (now (a .buf)) _ (record { till = a .till; word = Idle }) _ _ (timeout-idle (a .till) (now (a .frame)) answer (now (a .buf)) (c .before .before .if1 .left) free) refl,
     )
-
-failed-try-requires : tie.Need-failed-try-requires
-failed-try-requires c κs = search needs
-
-same-length : tie.Need-same-length
-same-length c = search needs
 
 returns-3 : tie.Need-returns-3
 returns-3 c =
@@ -51,9 +39,9 @@ timeout-spec =
     tie.close
     (tie.spec
     returns
-    enum-known-slot
-    enum-told
+    (λ c. search needs)
+    (λ c. search needs)
     returns-2
-    failed-try-requires
-    same-length
+    (λ c κs. search needs)
+    (λ c. search needs)
     returns-3)

@@ -8,23 +8,11 @@ use borrow.Author.Needs.{needs}
 use Rattle.deeds.proofs.drawer.put_in.Statement.{statement}
 use Rattle.deeds.proofs.drawer.put_in.Tie as tie
 
-is-price-requires : tie.Need-is-price-requires
-is-price-requires c κs = search needs
-
-refuse-requires : tie.Need-refuse-requires
-refuse-requires c κs = search needs
-
 returns : tie.Need-returns
 returns c =
     let k = c .before .before in
     let a = k .before .before .args in
     c .refuse .ensures ∙ wrong (a .books) (Puts (a .n)) (ap not (sym (k .is-price .ensures)) ∙ c .before .if1 .taken)
-
-any-open-requires : tie.Need-any-open-requires
-any-open-requires c κs = search needs
-
-refuse-requires-2 : tie.Need-refuse-requires-2
-refuse-requires-2 c κs = search needs
 
 returns-2 : tie.Need-returns-2
 returns-2 c =
@@ -32,18 +20,6 @@ returns-2 c =
     let a = i .before .before .before .args in
     c .refuse2 .ensures
     ∙ barred (a .books) (Puts (a .n)) (ap not (sym (i .before .is-price .ensures)) ∙ i .if1 .left) (sym (c .before .before .any-open .ensures) ∙ c .before .if2 .taken)
-
-passes-requires : tie.Need-passes-requires
-passes-requires c κs = search needs
-
-passes-requires-2 : tie.Need-passes-requires-2
-passes-requires-2 c κs = search needs
-
-either-requires : tie.Need-either-requires
-either-requires c κs = search needs
-
-refuse-requires-3 : tie.Need-refuse-requires-3
-refuse-requires-3 c κs = search needs
 
 returns-3 : tie.Need-returns-3
 returns-3 c =
@@ -69,12 +45,6 @@ add-next-2 c =
     let e = same-or (k .before .before .passes .ensures) (k .before .passes2 .ensures) (k .either .ensures) ∙ c .before .before .if3 .left in
     omega (arith, puts-within (a .books) (a .n) e .1)
 
-with-drawer-requires : tie.Need-with-drawer-requires
-with-drawer-requires c κs = search needs
-
-finish-requires : tie.Need-finish-requires
-finish-requires c κs = search needs
-
 returns-4 : tie.Need-returns-4
 returns-4 c =
     let f = c .before .before .before .before in
@@ -90,19 +60,19 @@ pub put-in-spec : {M : Type 1} → statement M
 put-in-spec =
     tie.close
     (tie.spec
-    is-price-requires
-    refuse-requires
+    (λ c κs. search needs)
+    (λ c κs. search needs)
     returns
-    any-open-requires
-    refuse-requires-2
+    (λ c κs. search needs)
+    (λ c κs. search needs)
     returns-2
-    passes-requires
-    passes-requires-2
-    either-requires
-    refuse-requires-3
+    (λ c κs. search needs)
+    (λ c κs. search needs)
+    (λ c κs. search needs)
+    (λ c κs. search needs)
     returns-3
     add-next
     add-next-2
-    with-drawer-requires
-    finish-requires
+    (λ c κs. search needs)
+    (λ c κs. search needs)
     returns-4)

@@ -8,26 +8,11 @@ use borrow.Author.Needs.{needs}
 use Rattle.deeds.proofs.drawer.take_out.Statement.{statement}
 use Rattle.deeds.proofs.drawer.take_out.Tie as tie
 
-is-price-requires : tie.Need-is-price-requires
-is-price-requires c κs = search needs
-
-refuse-requires : tie.Need-refuse-requires
-refuse-requires c κs = search needs
-
 returns : tie.Need-returns
 returns c =
     let k = c .before .before in
     let a = k .before .before .args in
     c .refuse .ensures ∙ wrong (a .books) (Takes (a .n)) (ap not (sym (k .is-price .ensures)) ∙ c .before .if1 .taken)
-
-any-open-requires : tie.Need-any-open-requires
-any-open-requires c κs = search needs
-
-either-requires : tie.Need-either-requires
-either-requires c κs = search needs
-
-refuse-requires-2 : tie.Need-refuse-requires-2
-refuse-requires-2 c κs = search needs
 
 returns-2 : tie.Need-returns-2
 returns-2 c =
@@ -36,12 +21,6 @@ returns-2 c =
     let a = i .before .before .before .args in
     let price = ap not (sym (i .before .is-price .ensures)) ∙ i .if1 .left in
     c .refuse2 .ensures ∙ barred (a .books) (Takes (a .n)) price (same-or (e .before .before .before .any-open .ensures) refl (e .before .either .ensures) ∙ e .if2 .taken)
-
-passes-requires : tie.Need-passes-requires
-passes-requires c κs = search needs
-
-refuse-requires-3 : tie.Need-refuse-requires-3
-refuse-requires-3 c κs = search needs
 
 returns-3 : tie.Need-returns-3
 returns-3 c =
@@ -65,12 +44,6 @@ add-next c =
     let a = c .before .before .before .before .before .before .before .before in
     omega (arith, fits-still (a .before .before .before .args .books .drawer .taken) (a .before .before .before .args .n) (sym (c .before .before .before .passes .ensures) ∙ c .before .before .if3 .left))
 
-with-drawer-requires : tie.Need-with-drawer-requires
-with-drawer-requires c κs = search needs
-
-finish-requires : tie.Need-finish-requires
-finish-requires c κs = search needs
-
 returns-4 : tie.Need-returns-4
 returns-4 c =
     let f = c .before .before .before .before in
@@ -86,18 +59,18 @@ pub take-out-spec : {M : Type 1} → statement M
 take-out-spec =
     tie.close
     (tie.spec
-    is-price-requires
-    refuse-requires
+    (λ c κs. search needs)
+    (λ c κs. search needs)
     returns
-    any-open-requires
-    either-requires
-    refuse-requires-2
+    (λ c κs. search needs)
+    (λ c κs. search needs)
+    (λ c κs. search needs)
     returns-2
-    passes-requires
-    refuse-requires-3
+    (λ c κs. search needs)
+    (λ c κs. search needs)
     returns-3
     sub-next
     add-next
-    with-drawer-requires
-    finish-requires
+    (λ c κs. search needs)
+    (λ c κs. search needs)
     returns-4)

@@ -6,22 +6,10 @@ use borrow.Author.Needs.{needs}
 use Rattle.deeds.proofs.texts.close_text.Statement.{statement}
 use Rattle.deeds.proofs.texts.close_text.Tie as tie
 
-text-open-requires : tie.Need-text-open-requires
-text-open-requires c κs = search needs
-
-refuse-requires : tie.Need-refuse-requires
-refuse-requires c κs = search needs
-
 returns : tie.Need-returns
 returns c =
     let k = c .before .before in
     c .refuse .ensures ∙ barred (k .before .args .books) ClosesText refl (ap not (sym (k .text-open .ensures)) ∙ c .before .if1 .taken)
-
-with-receipt-requires : tie.Need-with-receipt-requires
-with-receipt-requires c κs = search needs
-
-finish-requires : tie.Need-finish-requires
-finish-requires c κs = search needs
 
 returns-2 : tie.Need-returns-2
 returns-2 c =
@@ -34,9 +22,9 @@ pub close-text-spec : {M : Type 1} → statement M
 close-text-spec =
     tie.close
     (tie.spec
-    text-open-requires
-    refuse-requires
+    (λ c κs. search needs)
+    (λ c κs. search needs)
     returns
-    with-receipt-requires
-    finish-requires
+    (λ c κs. search needs)
+    (λ c κs. search needs)
     returns-2)

@@ -7,18 +7,6 @@ use borrow.Author.Needs.{needs}
 use Rattle.deeds.proofs.texts.open_text.Statement.{statement}
 use Rattle.deeds.proofs.texts.open_text.Tie as tie
 
-any-open-requires : tie.Need-any-open-requires
-any-open-requires c κs = search needs
-
-are-many-requires : tie.Need-are-many-requires
-are-many-requires c κs = search needs
-
-either-requires : tie.Need-either-requires
-either-requires c κs = search needs
-
-refuse-requires : tie.Need-refuse-requires
-refuse-requires c κs = search needs
-
 returns : tie.Need-returns
 returns c =
     let k = c .before .before in
@@ -32,15 +20,6 @@ add-t9 c =
     let e = same-or (k .before .before .any-open .ensures) (k .before .are-many .ensures) (k .either .ensures) ∙ c .before .before .if1 .left in
     omega (arith, few-texts b e)
 
-with-receipt-requires : tie.Need-with-receipt-requires
-with-receipt-requires c κs = search needs
-
-with-counters-requires : tie.Need-with-counters-requires
-with-counters-requires c κs = search needs
-
-finish-requires : tie.Need-finish-requires
-finish-requires c κs = search needs
-
 returns-2 : tie.Need-returns-2
 returns-2 c =
     let i = c .before .before .before .before .before in
@@ -53,13 +32,13 @@ pub open-text-spec : {M : Type 1} → statement M
 open-text-spec =
     tie.close
     (tie.spec
-    any-open-requires
-    are-many-requires
-    either-requires
-    refuse-requires
+    (λ c κs. search needs)
+    (λ c κs. search needs)
+    (λ c κs. search needs)
+    (λ c κs. search needs)
     returns
     add-t9
-    with-receipt-requires
-    with-counters-requires
-    finish-requires
+    (λ c κs. search needs)
+    (λ c κs. search needs)
+    (λ c κs. search needs)
     returns-2)

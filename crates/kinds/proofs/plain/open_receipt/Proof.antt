@@ -11,9 +11,6 @@ use borrow.Author.Needs.{needs}
 use Rattle.kinds.proofs.plain.open_receipt.Statement.{statement}
 use Rattle.kinds.proofs.plain.open_receipt.Tie as tie
 
-find-requires : tie.Need-find-requires
-find-requires c κs = search needs
-
 returns : tie.Need-returns
 returns c =
     let s = now (c .before .before .before .args .s) in
@@ -27,12 +24,6 @@ sub-rest c = omega (arith, at-most comma (now (c .before .before .before .args .
 
 part-rest-start : tie.Need-part-rest-start
 part-rest-start c = omega (arith, at-most comma (now (c .before .before .before .args .s)) (c .before .find .result) (c .before .find .ensures), c .if1 .left)
-
-part-rest-end : tie.Need-part-rest-end
-part-rest-end c = search needs
-
-find-requires-2 : tie.Need-find-requires-2
-find-requires-2 c κs = search needs
 
 returns-2 : tie.Need-returns-2
 returns-2 c =
@@ -72,12 +63,6 @@ part-open-with-start c =
     let r = take (length s - (f .result + 1)) (drop (f .result + 1) s) in
     omega (arith, at-most comma r (c .before .before .before .find2 .result) (c .before .before .before .find2 .ensures), c .before .before .if2 .left)
 
-part-open-with-end : tie.Need-part-open-with-end
-part-open-with-end c = search needs
-
-open-with-requires : tie.Need-open-with-requires
-open-with-requires c κs = search needs
-
 returns-3 : tie.Need-returns-3
 returns-3 c =
     let second = c .before .before .before .before .before in
@@ -94,19 +79,19 @@ pub open-receipt-spec : {M : Type 1} → statement M
 open-receipt-spec =
     tie.close
     (tie.spec
-    find-requires
+    (λ c κs. search needs)
     returns
     add-next
     sub-rest
     part-rest-start
-    part-rest-end
-    find-requires-2
+    (λ c. search needs)
+    (λ c κs. search needs)
     returns-2
     add-last
     slice-aggregate-open-with
     slice-aggregate-open-with-2
     sub-open-with
     part-open-with-start
-    part-open-with-end
-    open-with-requires
+    (λ c. search needs)
+    (λ c κs. search needs)
     returns-3)

@@ -5,43 +5,16 @@ use borrow.Author.Needs.{needs}
 use Rattle.kinds.proofs.plain.open_with.Statement.{statement}
 use Rattle.kinds.proofs.plain.open_with.Tie as tie
 
-digits-requires : tie.Need-digits-requires
-digits-requires c κs = search needs
-
-enum-known-a : tie.Need-enum-known-a
-enum-known-a c = search needs
-
-enum-told : tie.Need-enum-told
-enum-told c = search needs
-
 returns : tie.Need-returns
 returns c =
     let a = c .before .before .before .before .before .before .args in
     no-op (now (a .op)) (now (a .password)) (now (a .till)) (sym (c .before .before .digits .ensures) ∙ c .enum-told .given .1)
-
-digits-requires-2 : tie.Need-digits-requires-2
-digits-requires-2 c κs = search needs
-
-enum-known-b : tie.Need-enum-known-b
-enum-known-b c = search needs
-
-enum-told-2 : tie.Need-enum-told-2
-enum-told-2 c = search needs
 
 returns-2 : tie.Need-returns-2
 returns-2 c =
     let first = c .before .before .before .before in
     let a = first .before .before .before .before .before .before .args in
     no-password (now (a .op)) (now (a .password)) (now (a .till)) _ (sym (first .before .before .digits .ensures) ∙ first .a .given .1) (sym (c .before .before .digits2 .ensures) ∙ c .enum-told2 .given .1)
-
-digits-requires-3 : tie.Need-digits-requires-3
-digits-requires-3 c κs = search needs
-
-enum-known-c : tie.Need-enum-known-c
-enum-known-c c = search needs
-
-enum-told-3 : tie.Need-enum-told-3
-enum-told-3 c = search needs
 
 returns-3 : tie.Need-returns-3
 returns-3 c =
@@ -70,17 +43,17 @@ pub open-with-spec : {M : Type 1} → statement M
 open-with-spec =
     tie.close
     (tie.spec
-    digits-requires
-    enum-known-a
-    enum-told
+    (λ c κs. search needs)
+    (λ c. search needs)
+    (λ c. search needs)
     returns
-    digits-requires-2
-    enum-known-b
-    enum-told-2
+    (λ c κs. search needs)
+    (λ c. search needs)
+    (λ c. search needs)
     returns-2
-    digits-requires-3
-    enum-known-c
-    enum-told-3
+    (λ c κs. search needs)
+    (λ c. search needs)
+    (λ c. search needs)
     returns-3
     returns-4
     returns-5)

@@ -9,20 +9,8 @@ use Rattle.kinds.proofs.plain.subtotal.Tie as tie
 returns : tie.Need-returns
 returns c = rw (ne-eqb (length (now (c .before .before .args .s))) 2 (c .if1 .taken))
 
-shared-slice-read-a : tie.Need-shared-slice-read-a
-shared-slice-read-a c = search needs
-
-shared-slice-read-b : tie.Need-shared-slice-read-b
-shared-slice-read-b c = search needs
-
-is-flag-requires : tie.Need-is-flag-requires
-is-flag-requires c κs = search needs
-
 returns-2 : tie.Need-returns-2
 returns-2 c = rw (eq-eqb (length (now (c .before .before .before .before .before .before .args .s))) 2 (c .before .before .before .before .if1 .left), sym (c .before .is-flag .ensures) ∙ not-true _ (c .if2 .taken))
-
-is-flag-requires-2 : tie.Need-is-flag-requires-2
-is-flag-requires-2 c κs = search needs
 
 returns-3 : tie.Need-returns-3
 returns-3 c = rw (eq-eqb (length (now (c .before .before .before .before .before .before .before .before .args .s))) 2 (c .before .before .before .before .before .before .if1 .left), sym (c .before .before .before .is-flag .ensures) ∙ not-false _ (c .before .before .if2 .left), sym (c .before .is-flag2 .ensures) ∙ not-true _ (c .if3 .taken))
@@ -35,10 +23,10 @@ subtotal-spec =
     tie.close
     (tie.spec
     returns
-    shared-slice-read-a
-    shared-slice-read-b
-    is-flag-requires
+    (λ c. search needs)
+    (λ c. search needs)
+    (λ c κs. search needs)
     returns-2
-    is-flag-requires-2
+    (λ c κs. search needs)
     returns-3
     returns-4)

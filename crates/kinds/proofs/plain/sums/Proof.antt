@@ -13,9 +13,6 @@ returns c = rw (empty (now (c .before .args .s)) (c .if1 .taken))
 returns-2 : tie.Need-returns-2
 returns-2 c = sums-long (now (c .before .before .args .s)) (c .before .if1 .left) (c .if2 .taken)
 
-shared-slice-read-b : tie.Need-shared-slice-read-b
-shared-slice-read-b c = search needs
-
 returns-3 : tie.Need-returns-3
 returns-3 c = rw (one (now (c .before .before .before .before .args .s)) (c .before .before .if2 .left)) (rw (c .match .keys1))
 
@@ -29,4 +26,4 @@ returns-5 c =
 
 pub sums-spec : {M : Type 1} → statement M
 sums-spec =
-    tie.close (tie.spec returns returns-2 shared-slice-read-b returns-3 returns-4 returns-5)
+    tie.close (tie.spec returns returns-2 (λ c. search needs) returns-3 returns-4 returns-5)

@@ -2,11 +2,8 @@ use borrow.Author.Needs.{needs}
 use Rattle.rules.proofs.tests.is_full.Statement.{statement}
 use Rattle.rules.proofs.tests.is_full.Tie as tie
 
-capacity-requires : tie.Need-capacity-requires
-capacity-requires c κs = search needs
-
 returns : tie.Need-returns
 returns c = rw (c .before .capacity .ensures)
 
 pub is-full-spec : {M : Type 1} → statement M
-is-full-spec = tie.close (tie.spec capacity-requires returns)
+is-full-spec = tie.close (tie.spec (λ c κs. search needs) returns)

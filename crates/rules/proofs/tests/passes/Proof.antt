@@ -4,11 +4,8 @@ use borrow.Author.Needs.{needs}
 use Rattle.rules.proofs.tests.passes.Statement.{statement}
 use Rattle.rules.proofs.tests.passes.Tie as tie
 
-fits-sum-requires : tie.Need-fits-sum-requires
-fits-sum-requires c κs = search needs
-
 returns : tie.Need-returns
 returns c = ap not (c .fits-sum .ensures)
 
 pub passes-spec : {M : Type 1} → statement M
-passes-spec = tie.close (tie.spec fits-sum-requires returns)
+passes-spec = tie.close (tie.spec (λ c κs. search needs) returns)

@@ -2,15 +2,6 @@ use borrow.Author.Needs.{needs}
 use Rattle.rules.proofs.views.of_service.Statement.{statement}
 use Rattle.rules.proofs.views.of_service.Tie as tie
 
-enum-told : tie.Need-enum-told
-enum-told c = search needs
-
-enum-known-s : tie.Need-enum-known-s
-enum-known-s c = search needs
-
-enum-known-s-2 : tie.Need-enum-known-s-2
-enum-known-s-2 c = search needs
-
 returns : tie.Need-returns
 returns c = rw (c .enum-told .given .1)
 
@@ -22,4 +13,4 @@ returns-3 c = rw (c .before .s2 .given .1)
 
 pub of-service-spec : {M : Type 1} → statement M
 of-service-spec =
-    tie.close (tie.spec enum-told enum-known-s enum-known-s-2 returns returns-2 returns-3)
+    tie.close (tie.spec (λ c. search needs) (λ c. search needs) (λ c. search needs) returns returns-2 returns-3)

@@ -4,57 +4,6 @@ use borrow.Author.Needs.{needs}
 use Rattle.rules.proofs.views.view_of.Statement.{statement}
 use Rattle.rules.proofs.views.view_of.Tie as tie
 
-enum-told : tie.Need-enum-told
-enum-told c = search needs
-
-enum-told-2 : tie.Need-enum-told-2
-enum-told-2 c = search needs
-
-enum-told-3 : tie.Need-enum-told-3
-enum-told-3 c = search needs
-
-enum-known-command : tie.Need-enum-known-command
-enum-known-command c = search needs
-
-enum-known-command-2 : tie.Need-enum-known-command-2
-enum-known-command-2 c = search needs
-
-enum-told-4 : tie.Need-enum-told-4
-enum-told-4 c = search needs
-
-enum-known-command-3 : tie.Need-enum-known-command-3
-enum-known-command-3 c = search needs
-
-enum-told-5 : tie.Need-enum-told-5
-enum-told-5 c = search needs
-
-enum-told-6 : tie.Need-enum-told-6
-enum-told-6 c = search needs
-
-enum-known-command-4 : tie.Need-enum-known-command-4
-enum-known-command-4 c = search needs
-
-of-sums-requires : tie.Need-of-sums-requires
-of-sums-requires c κs = search needs
-
-enum-known-command-5 : tie.Need-enum-known-command-5
-enum-known-command-5 c = search needs
-
-of-closing-requires : tie.Need-of-closing-requires
-of-closing-requires c κs = search needs
-
-enum-known-command-6 : tie.Need-enum-known-command-6
-enum-known-command-6 c = search needs
-
-of-service-requires : tie.Need-of-service-requires
-of-service-requires c κs = search needs
-
-enum-told-7 : tie.Need-enum-told-7
-enum-told-7 c = search needs
-
-enum-told-8 : tie.Need-enum-told-8
-enum-told-8 c = search needs
-
 returns : tie.Need-returns
 returns c = sym (ap viewOf (c .enum-told .given .1))
 
@@ -101,23 +50,23 @@ pub view-of-spec : {M : Type 1} → statement M
 view-of-spec =
     tie.close
     (tie.spec
-    enum-told
-    enum-told-2
-    enum-told-3
-    enum-known-command
-    enum-known-command-2
-    enum-told-4
-    enum-known-command-3
-    enum-told-5
-    enum-told-6
-    enum-known-command-4
-    of-sums-requires
-    enum-known-command-5
-    of-closing-requires
-    enum-known-command-6
-    of-service-requires
-    enum-told-7
-    enum-told-8
+    (λ c. search needs)
+    (λ c. search needs)
+    (λ c. search needs)
+    (λ c. search needs)
+    (λ c. search needs)
+    (λ c. search needs)
+    (λ c. search needs)
+    (λ c. search needs)
+    (λ c. search needs)
+    (λ c. search needs)
+    (λ c κs. search needs)
+    (λ c. search needs)
+    (λ c κs. search needs)
+    (λ c. search needs)
+    (λ c κs. search needs)
+    (λ c. search needs)
+    (λ c. search needs)
     returns
     returns-2
     returns-3

@@ -18,20 +18,11 @@ returns c =
     let a = c .before .before .before .args in
     sym (too-short ToTill (now (a .buf)) (answerOf (a .seq) (a .code) (now (a .content)) (a .t5)) (c .if1 .taken))
 
-can-carry-requires : tie.Need-can-carry-requires
-can-carry-requires c κs = search needs
-
 returns-2 : tie.Need-returns-2
 returns-2 c =
     let a = c .before .before .before .before .before .args in
     let m = answerOf (a .seq) (a .code) (now (a .content)) (a .t5) in
     sym (cannot ToTill (now (a .buf)) m (c .before .before .if1 .left) (not-carried ToTill m (sym (c .before .can-carry .ensures) ∙ not-true _ (c .if2 .taken))))
-
-slice-aggregate-all-may-stand : tie.Need-slice-aggregate-all-may-stand
-slice-aggregate-all-may-stand c = search needs
-
-all-may-stand-requires : tie.Need-all-may-stand-requires
-all-may-stand-requires c κs = search needs
 
 returns-3 : tie.Need-returns-3
 returns-3 c =
@@ -39,17 +30,11 @@ returns-3 c =
     let m = answerOf (a .seq) (a .code) (now (a .content)) (a .t5) in
     sym (cannot ToTill (now (a .buf)) m (c .before .before .before .before .before .if1 .left) (no-status ToTill m (sym (c .before .all-may-stand .ensures) ∙ not-true _ (c .if3 .taken))))
 
-put-bytes-requires : tie.Need-put-bytes-requires
-put-bytes-requires c κs = search needs
-
 finish-requires : tie.Need-finish-requires
 finish-requires c κs =
     let a = c .before .before .before .before .before .before .before .before .before .before .before .before .before .args in
     let few = carriable-short (a .seq) (a .code) (now (a .content)) (sym (c .before .before .before .before .before .before .before .before .before .can-carry .ensures) ∙ not-false _ (c .before .before .before .before .before .before .before .before .if2 .left)) in
     (omega arith, omega (arith, c .before .before .before .put-bytes .kept, c .before .before .before .before .before .before .before .before .before .before .if1 .left))
-
-same-length : tie.Need-same-length
-same-length c = search needs
 
 returns-4 : tie.Need-returns-4
 returns-4 c =
@@ -71,12 +56,12 @@ build-answer-spec =
     tie.close
     (tie.spec
     returns
-    can-carry-requires
+    (λ c κs. search needs)
     returns-2
-    slice-aggregate-all-may-stand
-    all-may-stand-requires
+    (λ c. search needs)
+    (λ c κs. search needs)
     returns-3
-    put-bytes-requires
+    (λ c κs. search needs)
     finish-requires
-    same-length
+    (λ c. search needs)
     returns-4)

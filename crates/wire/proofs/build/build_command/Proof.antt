@@ -16,26 +16,17 @@ returns c =
     let a = c .before .before .before .args in
     sym (too-short ToDevice (now (a .buf)) (commandOf (a .seq) (a .code) (now (a .content))) (c .if1 .taken))
 
-can-carry-requires : tie.Need-can-carry-requires
-can-carry-requires c κs = search needs
-
 returns-2 : tie.Need-returns-2
 returns-2 c =
     let a = c .before .before .before .before .before .args in
     sym (cannot ToDevice (now (a .buf)) (commandOf (a .seq) (a .code) (now (a .content))) (c .before .before .if1 .left)
     (sendable-command (a .seq) (a .code) (now (a .content)) ∙ sym (c .before .can-carry .ensures) ∙ not-true _ (c .if2 .taken)))
 
-put-bytes-requires : tie.Need-put-bytes-requires
-put-bytes-requires c κs = search needs
-
 enclose-requires : tie.Need-enclose-requires
 enclose-requires c κs =
     let a = c .before .before .before .before .before .before .before .before .before .before .args in
     let few = carriable-short (a .seq) (a .code) (now (a .content)) (sym (c .before .before .before .before .before .before .can-carry .ensures) ∙ not-false _ (c .before .before .before .before .before .if2 .left)) in
     (omega arith, omega (arith, c .before .before .before .put-bytes .kept, c .before .before .before .before .before .before .before .if1 .left))
-
-same-length : tie.Need-same-length
-same-length c = search needs
 
 returns-3 : tie.Need-returns-3
 returns-3 c =
@@ -53,9 +44,9 @@ build-command-spec =
     tie.close
     (tie.spec
     returns
-    can-carry-requires
+    (λ c κs. search needs)
     returns-2
-    put-bytes-requires
+    (λ c κs. search needs)
     enclose-requires
-    same-length
+    (λ c. search needs)
     returns-3)

@@ -7,30 +7,6 @@ use borrow.Author.Needs.{needs}
 use Rattle.wire.proofs.build.finish.Statement.{statement}
 use Rattle.wire.proofs.build.finish.Tie as tie
 
-add-put-byte : tie.Need-add-put-byte
-add-put-byte c = search needs
-
-put-byte-requires : tie.Need-put-byte-requires
-put-byte-requires c κs = search needs
-
-add-put-bytes : tie.Need-add-put-bytes
-add-put-bytes c = search needs
-
-slice-aggregate-put-bytes : tie.Need-slice-aggregate-put-bytes
-slice-aggregate-put-bytes c = search needs
-
-put-bytes-requires : tie.Need-put-bytes-requires
-put-bytes-requires c κs = search needs
-
-add-enclose : tie.Need-add-enclose
-add-enclose c = search needs
-
-enclose-requires : tie.Need-enclose-requires
-enclose-requires c κs = search needs
-
-same-length : tie.Need-same-length
-same-length c = search needs
-
 returns : tie.Need-returns
 returns c =
     let s = c .before .before .before .before .before .before .before .before .before .before .before .before .before .before in
@@ -44,12 +20,12 @@ pub finish-spec : {M : Type 1} → statement M
 finish-spec =
     tie.close
     (tie.spec
-    add-put-byte
-    put-byte-requires
-    add-put-bytes
-    slice-aggregate-put-bytes
-    put-bytes-requires
-    add-enclose
-    enclose-requires
-    same-length
+    (λ c. search needs)
+    (λ c κs. search needs)
+    (λ c. search needs)
+    (λ c. search needs)
+    (λ c κs. search needs)
+    (λ c. search needs)
+    (λ c κs. search needs)
+    (λ c. search needs)
     returns)

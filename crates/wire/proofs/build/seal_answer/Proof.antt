@@ -21,12 +21,6 @@ returns-2 c =
     let a = c .before .before .before .args in
     sym (seal-long (now (a .buf)) (a .seq) (a .code) (a .n) (a .status) (c .before .if1 .left) (c .if2 .taken))
 
-finish-requires : tie.Need-finish-requires
-finish-requires c κs = search needs
-
-same-length : tie.Need-same-length
-same-length c = search needs
-
 returns-3 : tie.Need-returns-3
 returns-3 c =
     let a = c .before .before .before .before .before .before .before .args in
@@ -38,4 +32,4 @@ returns-3 c =
     rw (size, c .before .before .finish .ensures .1) (sym (seal-done (now (a .buf)) (a .seq) (a .code) (a .n) (a .status) (c .before .before .before .before .before .if1 .left) (c .before .before .before .before .if2 .left)))
 
 pub seal-answer-spec : {M : Type 1} → statement M
-seal-answer-spec = tie.close (tie.spec returns returns-2 finish-requires same-length returns-3)
+seal-answer-spec = tie.close (tie.spec returns returns-2 (λ c κs. search needs) (λ c. search needs) returns-3)

@@ -23,9 +23,6 @@ loop-holds c = (omega arith, refl)
 shared-slice-read-may-stand : tie.Need-shared-slice-read-may-stand Inv-loop μ-loop
 shared-slice-read-may-stand c = omega arith
 
-may-stand-requires : tie.Need-may-stand-requires Inv-loop μ-loop
-may-stand-requires c κs = search needs
-
 returns : tie.Need-returns Inv-loop μ-loop
 returns c =
     let at = c .before .before .before .before in
@@ -59,7 +56,7 @@ all-may-stand-spec =
     μ-loop
     loop-holds
     shared-slice-read-may-stand
-    may-stand-requires
+    (λ c κs. search needs)
     returns
     add-i
     loop-less

@@ -3,18 +3,6 @@ use borrow.Author.Needs.{needs}
 use Rattle.wire.proofs.suit.may_stand.Statement.{statement}
 use Rattle.wire.proofs.suit.may_stand.Tie as tie
 
-enum-told : tie.Need-enum-told
-enum-told c = search needs
-
-enum-told-2 : tie.Need-enum-told-2
-enum-told-2 c = search needs
-
-may-stand-in-data-requires : tie.Need-may-stand-in-data-requires
-may-stand-in-data-requires c κs = search needs
-
-enum-told-3 : tie.Need-enum-told-3
-enum-told-3 c = search needs
-
 returns : tie.Need-returns
 returns c = rw (c .enum-told .given .1) (within-byte 0x20 _ (c .before .before .fits .b .fits))
 
@@ -28,10 +16,10 @@ pub may-stand-spec : {M : Type 1} → statement M
 may-stand-spec =
     tie.close
     (tie.spec
-    enum-told
-    enum-told-2
-    may-stand-in-data-requires
-    enum-told-3
+    (λ c. search needs)
+    (λ c. search needs)
+    (λ c κs. search needs)
+    (λ c. search needs)
     returns
     returns-2
     returns-3)

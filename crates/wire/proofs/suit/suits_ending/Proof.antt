@@ -3,12 +3,6 @@ use borrow.Author.Needs.{needs}
 use Rattle.wire.proofs.suit.suits_ending.Statement.{statement}
 use Rattle.wire.proofs.suit.suits_ending.Tie as tie
 
-bcc-bytes-requires : tie.Need-bcc-bytes-requires
-bcc-bytes-requires c κs = search needs
-
-array-read-result : tie.Need-array-read-result
-array-read-result c = search needs
-
 returns : tie.Need-returns
 returns c = rw (c .before .bcc-bytes .ensures) (ending-quad (c .before .before .args .sum) (c .before .before .args .at) (c .before .before .args .b) (c .if1 .taken))
 
@@ -20,4 +14,4 @@ returns-3 c = ending-out (c .before .before .before .args .sum) (c .before .befo
 
 pub suits-ending-spec : {M : Type 1} → statement M
 suits-ending-spec =
-    tie.close (tie.spec bcc-bytes-requires array-read-result returns returns-2 returns-3)
+    tie.close (tie.spec (λ c κs. search needs) (λ c. search needs) returns returns-2 returns-3)

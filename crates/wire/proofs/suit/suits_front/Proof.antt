@@ -4,20 +4,11 @@ use borrow.Author.Needs.{needs}
 use Rattle.wire.proofs.suit.suits_front.Statement.{statement}
 use Rattle.wire.proofs.suit.suits_front.Tie as tie
 
-may-stand-requires : tie.Need-may-stand-requires
-may-stand-requires c κs = search needs
-
 returns : tie.Need-returns
 returns c = c .may-stand .ensures ∙ front-mark (c .before .before .args .way) (c .before .before .args .n) _ _ (c .before .if1 .taken)
 
-may-stand-requires-2 : tie.Need-may-stand-requires-2
-may-stand-requires-2 c κs = search needs
-
 returns-2 : tie.Need-returns-2
 returns-2 c = c .may-stand2 .ensures ∙ front-data (c .before .before .before .args .way) (c .before .before .before .args .n) _ _ (c .before .before .if1 .left) (c .before .if2 .taken)
-
-suits-behind-requires : tie.Need-suits-behind-requires
-suits-behind-requires c κs = search needs
 
 returns-3 : tie.Need-returns-3
 returns-3 c = c .suits-behind .ensures ∙ front-behind (c .before .before .before .args .way) (c .before .before .before .args .n) _ _ (c .before .before .if1 .left) (c .before .if2 .left)
@@ -26,9 +17,9 @@ pub suits-front-spec : {M : Type 1} → statement M
 suits-front-spec =
     tie.close
     (tie.spec
-    may-stand-requires
+    (λ c κs. search needs)
     returns
-    may-stand-requires-2
+    (λ c κs. search needs)
     returns-2
-    suits-behind-requires
+    (λ c κs. search needs)
     returns-3)
