@@ -10,7 +10,7 @@ use borrow.Author.Tests.{le-leb, ne-eqb}
 use Rattle.text.specs.Digits.{digits, number}
 use Rattle.text.proofs.Laws.{length-digits, number-digits}
 use Rattle.wire.specs.Bytes.{mayStand, every}
-use Rattle.wire.proofs.Suits.{both}
+use Rattle.basics.proofs.Tests.{both}
 use Rattle.wire.specs.Frame.{answerOf, carriable, sendable}
 use Rattle.wire.proofs.Building.{sendable-answer}
 use Rattle.wire.specs.declared.Way.the-variants.{ToTill}

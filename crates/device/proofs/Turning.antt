@@ -9,6 +9,7 @@ use lib.ListN.{length, getD, take, drop}
 use Rattle.wire.specs.Frame.{Message, commandOf}
 use Rattle.wire.specs.Places.{dataCount}
 use Rattle.wire.specs.declared.Way.the-variants.{ToDevice}
+use Rattle.reader.proofs.History.{no-start}
 use Rattle.reader.specs.Reading.{Place, outside, inside, Event, nothing, brokenFrame, heard, Read, Standing, broken, beginning, whole, standing, goesOn, grown, message, startsAnew, read, readOther}
 use Rattle.reader.specs.Fields.{placeOf, readerOf, keptIn}
 use Rattle.reader.specs.declared.Reader.{Reader}
@@ -52,11 +53,6 @@ not-broken m e = let z : _≡_ {A = ℕ} 0 1 = cc in omega arith
 same-heard : (m n : Message) → heard m ≡ heard n → n ≡ m
 same-heard m n e = cc
 
-anew : (p : Place) (m : Message) → startsAnew p ≡ heard m → ⊥
-anew outside m e = not-nothing m e
-anew (inside sum []) m e = not-nothing m e
-anew (inside sum (b ∷ bytes)) m e = not-broken m e
-
 abbrev pub Standing-in : List ℕ → Message → Type 0
 Standing-in frame m = m ≡ commandOf (m .seq) (m .code) (take (length (m .content)) (drop 3 frame))
 
@@ -72,7 +68,7 @@ went frame c whole next m e = (refl, subst (Standing-in frame) (sym (same-heard 
 heard-inside : (r : Reader) (frame : List ℕ) (b : ℕ) (m : Message) (within start : Bool)
     → cond start (record { place = inside 0 []; event = startsAnew (cond within (inside (r .sum) (take (r .count) frame)) outside) }) (readOther ToDevice (cond within (inside (r .sum) (take (r .count) frame)) outside) b) .event ≡ heard m
     → (cond start (record { place = inside 0 []; event = startsAnew (cond within (inside (r .sum) (take (r .count) frame)) outside) }) (readOther ToDevice (cond within (inside (r .sum) (take (r .count) frame)) outside) b) .place ≡ outside) × Standing-in frame m
-heard-inside r frame b m within true e = absurd (anew (cond within (inside (r .sum) (take (r .count) frame)) outside) m e)
+heard-inside r frame b m within true e = absurd (no-start (cond within (inside (r .sum) (take (r .count) frame)) outside) m e)
 heard-inside r frame b m false false e = absurd (not-nothing m e)
 heard-inside r frame b m true false e =
     went frame (r .count) (standing ToDevice (r .sum) (take (r .count) frame) b) (inside (grown ToDevice (r .sum) (take (r .count) frame) b) (take (r .count) frame ++ b ∷ [])) m e

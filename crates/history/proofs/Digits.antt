@@ -8,7 +8,7 @@ use borrow.Author.Tests.{ltb-true, not-false}
 use Rattle.kinds.specs.declared.Command.{Command}
 use Rattle.kinds.specs.declared.Tender.{Tender}
 use Rattle.kinds.specs.declared.Tender.the-variants.{Rest, Amount}
-use Rattle.wire.proofs.Suits.{both}
+use Rattle.basics.proofs.Tests.{both}
 use Rattle.receipt.specs.Receipts.{givenOf}
 use Rattle.books.specs.Groups.{at}
 use Rattle.books.specs.declared.Books.{Books}

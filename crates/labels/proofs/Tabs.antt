@@ -8,8 +8,8 @@ use lib.Dec.{leb, ltb}
 use lib.ListN.{length, take, drop, drop-of-length-le}
 use lib.Seq.{length-take-le, take-take}
 use borrow.Author.Tests.{le-leb, lt-leb, lt-ltb, le-ltb, ltb-true}
-use Rattle.wire.specs.Bytes.{every}
-use Rattle.wire.proofs.Suits.{both}
+use Rattle.text.specs.Parts.{every}
+use Rattle.basics.proofs.Tests.{both}
 use Rattle.text.specs.Parts.{firstAt, has, upTo}
 use Rattle.labels.specs.Texts.{tab, lineFeed, isText, areTexts, beginsWithTexts, restOf, onlyLine, firstLine, secondLine}
 use Rattle.text.proofs.Cutting.{place-within, drop-take}

@@ -4,7 +4,7 @@ use mathlib.Core.Bool.{Bool, cond, _&&_}
 use mathlib.Core.List.{List, []}
 use lib.Dec.{leb}
 use lib.ListN.{length}
-use Rattle.wire.specs.Bytes.{every}
+use Rattle.text.specs.Parts.{every}
 use Rattle.text.specs.Parts.{firstAt, has, upTo, past}
 use Rattle.labels.specs.declared.Found.{Found}
 use Rattle.labels.specs.declared.Found.the-variants.{At, NotThere}

@@ -14,7 +14,7 @@ use lib.Seq.{sets}
 use borrow.Author.Tests.{ne-eqb}
 use Rattle.wire.specs.Frame.{Message, frame, sendable}
 use Rattle.wire.specs.declared.Way.the-variants.{ToDevice}
-use Rattle.wire.proofs.Suits.{both}
+use Rattle.basics.proofs.Tests.{both, and-true}
 use Rattle.reader.specs.Reading.{outside, brokenFrame}
 use Rattle.store.specs.Store.{Store, freshStore}
 use Rattle.line.specs.Turns.{Carried, Before, switchedOn, session}
@@ -106,9 +106,6 @@ pub carries-out-those-that-arrived : (cs : List Sent) → allMayCome cs ≡ true
 carries-out-those-that-arrived = carries-out-those-whole carry
 
 -- from the till end: its frames, whatever the line does to each, are such a list
-and-true-both : (s t : Bool) → s ≡ true → t ≡ true → s && t ≡ true
-and-true-both s t e f = rw (e, f)
-
 same-frames : (n : ℕ) (f : List ℕ) (ways : List Arrival) → eachArrives (replicate n f) ways ≡ true
     → (all (mayArrive f) ways ≡ true) × (framesArriving (replicate n f) ways ≡ triesArriving f ways)
 same-frames zero f [] e = (refl, refl)
@@ -117,7 +114,7 @@ same-frames (suc n) f [] e = absurd (false≢true e)
 same-frames (suc n) f (a ∷ ways) e =
     let two = both (mayArrive f a) (eachArrives (replicate n f) ways) e in
     let rest = same-frames n f ways (two .1) in
-    (and-true-both (mayArrive f a) (all (mayArrive f) ways) (two .0) (rest .0), ap (λ z. arriving f a ++ z) (rest .1))
+    (and-true (mayArrive f a) (all (mayArrive f) ways) (two .0) (rest .0), ap (λ z. arriving f a ++ z) (rest .1))
 
 -- neighbours differ by the till end's own SEQ
 seq-differs : (place : ℕ) (m : Message) → m .seq ≡ seqOf place → (hs : List Handed) (rest : List (List Arrival)) → AllInPlace (place + 1) hs
@@ -147,18 +144,18 @@ crosses (h ∷ hs) place p (ways ∷ rest) e =
     let n = length (h .frames) in
     let tries = same-frames n f ways (sym (ap (λ z. eachArrives z ways) (own .same)) ∙ two .0) in
     let others = crosses hs (place + 1) (p .1) rest (two .1) in
-    let may = and-true-both (sendable ToDevice m) (all (mayArrive f) ways) (own .can) (tries .0) in
+    let may = and-true (sendable ToDevice m) (all (mayArrive f) ways) (own .can) (tries .0) in
     let cs = overTheLine hs rest in
     record {
-      may-come = and-true-both (sendable ToDevice m && all (mayArrive f) ways) (allMayCome cs) may (others .may-come);
+      may-come = and-true (sendable ToDevice m && all (mayArrive f) ways) (allMayCome cs) may (others .may-come);
       same-bytes = ap (λ z. z ++ bytesArriving hs rest) (ap (λ z. framesArriving z ways) (own .same) ∙ tries .1)
           ∙ ap (λ z. triesArriving f ways ++ z) (others .same-bytes);
       same-commands = ap (λ z. m ∷ z) (others .same-commands);
       is-delivery = λ w.
           let whole = both (any isWhole ways) (eachOneWhole rest) w in
-          and-true-both (tried (record { command = m; tries = ways }) && differsFrom m cs) (delivery cs)
-          (and-true-both (tried (record { command = m; tries = ways })) (differsFrom m cs)
-          (and-true-both (sendable ToDevice m && all (mayArrive f) ways) (any isWhole ways) may (whole .0))
+          and-true (tried (record { command = m; tries = ways }) && differsFrom m cs) (delivery cs)
+          (and-true (tried (record { command = m; tries = ways })) (differsFrom m cs)
+          (and-true (sendable ToDevice m && all (mayArrive f) ways) (any isWhole ways) may (whole .0))
           (seq-differs place m (p .0 .seq) hs rest (p .1)))
           (others .is-delivery (whole .1));
     }

@@ -8,7 +8,7 @@ use lib.Dec.{eqb, leb, ltb}
 use lib.ListN.{length, drop}
 use borrow.Author.Tests.{leb-true, le-leb, lt-ltb}
 use Rattle.wire.specs.Bytes.{within}
-use Rattle.wire.proofs.Suits.{both}
+use Rattle.basics.proofs.Tests.{both, and-true}
 use Rattle.text.specs.Parts.{has, upTo, past, begins}
 use Rattle.figures.specs.Numbers.{fieldNumber, fieldValue, signedNumber, signedMinus, signedSize, fieldOf, priceOf, quantityOf, aboveZero, percentOf, signedPriceOf}
 use Rattle.figures.specs.declared.Number.{Number}
@@ -95,9 +95,6 @@ rest-right : (f : Found) (s : List ℕ) (next : List ℕ → Parsed) → ((r : L
 rest-right (At n) s next k = k (drop n s)
 rest-right NotThere s next k = syntax
 
-and-true : {a b : Bool} → a ≡ true → b ≡ true → a && b ≡ true
-and-true {a} {b} p q = ap (λ z. z && b) p ∙ q
-
 -- a number above zero was one before it was asked
 above-zero : (r : Number) (n : ℕ) → aboveZero r ≡ Is n → (r ≡ Is n) × (ltb 0 n ≡ true)
 above-zero (Is m) n e = go (ltb 0 m) refl e
@@ -113,7 +110,7 @@ tender-right mode (b ∷ s) =
     let n = fieldValue (aboveZero (priceOf (b ∷ s))) in
     field-right (aboveZero (priceOf (b ∷ s))) _ (λ e.
     let more = above-zero (priceOf (b ∷ s)) n e in
-    plain (λ books. ap not (and-true (more .1) (lt-ltb n 10000000000 (price-small (b ∷ s) n (more .0))))) refl)
+    plain (λ books. ap not (and-true _ _ (more .1) (lt-ltb n 10000000000 (price-small (b ∷ s) n (more .0))))) refl)
 
 payment-right : (s : List ℕ) → Right (paymentIn s)
 payment-right [] = plain (λ books. refl) refl
@@ -148,10 +145,10 @@ priced-right group minus s a small fit =
     let some = quantity-right s quantity eq in
     plain
     (λ books. ap not
-    (and-true
-    (and-true
-    (and-true
-    (and-true (lt-ltb group 8 small) (lt-ltb price 10000000000 (price-small (upTo star s) price ep)))
+    (and-true _ _
+    (and-true _ _
+    (and-true _ _
+    (and-true _ _ (lt-ltb group 8 small) (lt-ltb price 10000000000 (price-small (upTo star s) price ep)))
     (some .0))
     (some .1))
     fit))

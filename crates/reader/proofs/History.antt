@@ -51,7 +51,7 @@ known-run k (b ∷ bs) hist p h =
     (known-run k bs (hist ++ b ∷ []) (read k p b .place) (known-step k hist p b h))
 
 -- what can't be heard
-no-start : (p : Place) (m : Message) → startsAnew p ≡ heard m → ⊥
+pub no-start : (p : Place) (m : Message) → startsAnew p ≡ heard m → ⊥
 no-start outside m e = let z : _≡_ {A = ℕ} 0 1 = cc in omega arith
 no-start (inside sum []) m e = let z : _≡_ {A = ℕ} 0 1 = cc in omega arith
 no-start (inside sum (b ∷ bytes)) m e = let z : _≡_ {A = ℕ} 0 1 = cc in omega arith

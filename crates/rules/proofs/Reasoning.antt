@@ -5,6 +5,7 @@ use Prim.Native.Nat.{ℕ, _+_, _-_, _≤_, _<_}
 use native.Mathlib.Omega.{arith}
 use lib.Dec.{ltb}
 use borrow.Author.Tests.{lt-leb, le-leb, leb-true, leb-false, ltb-false, not-false}
+pub use Rattle.basics.proofs.Tests.{none-of}
 use Rattle.kinds.specs.declared.Password.{Password}
 use Rattle.books.specs.Books.{anyOpen}
 use Rattle.books.specs.Sound.{inTwelve}
@@ -12,10 +13,6 @@ use Rattle.books.specs.declared.Books.{Books}
 use Rattle.rules.specs.Reasons.{isRight, full, manyOpened}
 use Rattle.rules.specs.Rules.{ruleOf}
 use Rattle.rules.specs.declared.views.View.the-variants.{Opens, OpensText, Puts, Takes}
-
-pub none-of : (x y : Bool) → x || y ≡ false → (x ≡ false) × (y ≡ false)
-none-of true y e = absurd (false≢true (sym e))
-none-of false y e = (refl, e)
 
 -- the or that the code asks is the one of the rule
 pub same-or : {x y p q r : Bool} → p ≡ x → q ≡ y → r ≡ (p || q) → (x || y) ≡ r

@@ -1,8 +1,8 @@
--- PROTOCOL 4.8 and 4.5: a list cut at the first byte of a kind, and how it begins.
+-- PROTOCOL 4.8 and 4.5: a list cut at the first byte of a kind, and how it begins; a test of each of its bytes.
 use Prim.Native.Nat.{ℕ, suc, _+_}
-use mathlib.Core.Bool.{Bool, false, cond}
+use mathlib.Core.Bool.{Bool, true, false, cond, _&&_}
 use mathlib.Core.List.{List, [], _∷_}
-use lib.Dec.{ltb, eqb}
+use lib.Dec.{leb, ltb, eqb}
 use lib.ListN.{length, take, drop}
 
 -- PROTOCOL 4.8: where the first b stands; the length where there is none
@@ -26,3 +26,12 @@ past b xs = drop (firstAt b xs + 1) xs
 abbrev pub begins : ℕ → List ℕ → Bool
 begins b [] = false
 begins b (x ∷ xs) = eqb x b
+
+-- from the lowest to the highest, both of them too
+abbrev pub within : ℕ → ℕ → ℕ → Bool
+within lowest highest b = leb lowest b && leb b highest
+
+-- whether each passes the test
+abbrev pub every : (ℕ → Bool) → List ℕ → Bool
+every test [] = true
+every test (b ∷ bs) = test b && every test bs

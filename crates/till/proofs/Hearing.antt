@@ -8,6 +8,7 @@ use lib.Dec.{eqb}
 use lib.ListN.{length}
 use Rattle.wire.specs.Frame.{Message}
 use Rattle.wire.specs.declared.Way.{Way}
+use Rattle.reader.proofs.History.{no-start}
 use Rattle.reader.specs.Reading.{Place, outside, inside, Read, Event, nothing, brokenFrame, heard, suits, atLast, read, readOther, startsAnew, message}
 use Rattle.reader.proofs.Steps.{reads-broken, reads-more, reads-whole}
 use Rattle.reader.specs.Fields.{heardOf}
@@ -61,11 +62,6 @@ pub record From (k : Way) (p : Place) (b : ℕ) (m : Message) : Type 0 where
   pub says : m ≡ message k bytes
   pub last : atLast k bytes ≡ true
   pub left : read k p b .place ≡ outside
-
-no-start : (p : Place) (m : Message) → startsAnew p ≡ heard m → ⊥
-no-start outside m e = let z : _≡_ {A = ℕ} 0 1 = cc in omega arith
-no-start (inside sum []) m e = let z : _≡_ {A = ℕ} 0 1 = cc in omega arith
-no-start (inside sum (b ∷ bytes)) m e = let z : _≡_ {A = ℕ} 0 1 = cc in omega arith
 
 pub heard-from : (k : Way) (p : Place) (b : ℕ) (m : Message) → read k p b .event ≡ heard m → From k p b m
 heard-from k p b m = first (eqb b 0x01) refl

@@ -10,6 +10,7 @@ use lib.Dec.{leb, eqb}
 use lib.ListN.{length, getD, drop, replicate, length-append, length-replicate, getD-replicate, List·getD-append, List·getD-eq-default, drop-of-length-le}
 use lib.Seq.{getD-append-add, getD-append-seam, drop-cons}
 use borrow.Author.Tests.{le-leb, ne-eqb}
+pub use Rattle.basics.proofs.Tests.{both}
 use Rattle.wire.specs.Bytes.{within, mayStand, mayStandInData, every}
 use Rattle.wire.specs.Frame.{bcc}
 use Rattle.wire.specs.Places.{behindData, front, ending, is, none}
@@ -24,10 +25,6 @@ pub &&-true : (a : Bool) → a && true ≡ a
 pub &&-false : (a : Bool) → a && false ≡ false
 &&-false true = refl
 &&-false false = refl
-
-pub both : (a b : Bool) → a && b ≡ true → (a ≡ true) × (b ≡ true)
-both true b e = (refl, e)
-both false b e = absurd (false≢true e)
 
 -- a byte is never above FFh, so the upper bound costs the code nothing
 pub within-byte : (lowest b : ℕ) → b < 256 → leb lowest b ≡ within lowest 0xFF b

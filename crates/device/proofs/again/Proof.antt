@@ -9,7 +9,8 @@ returns c = none-again (c .before .before .before .before .args .previous) (now 
 
 returns-2 : tie.Need-returns-2
 returns-2 c =
-    let a = c .before .before .before .before .before .before .before .before .before .before .before .args in (
+    let start = c .before .before .before .before .before .before .before .before .before .before .before in
+    let a = start .args in (
       again-size (a .previous) (now (a .last)) (now (a .buf)) _ _ _ (c .before .before .before .before .before .least-size .result) (c .before .before .before .before .before .before .before .previous .given .1) (c .before .before .before .before .before .least-size .ensures),
       again-bytes (a .previous) (now (a .last)) (now (a .buf)) _ _ _ (c .before .before .before .before .before .least-size .result) (c .before .before .before .before .before .before .before .previous .given .1) (c .before .before .before .before .before .least-size .ensures) _ (c .before .before .put-bytes .ensures),
     )

@@ -5,7 +5,7 @@ use denote.Ref.{now}
 use lib.Dec.{leb}
 use lib.ListN.{length, drop}
 use borrow.Author.Tests.{le-leb, lt-leb}
-use Rattle.wire.specs.Bytes.{every}
+use Rattle.text.specs.Parts.{every}
 use Rattle.wire.proofs.Suits.{every-turn, every-stop, every-done}
 use Rattle.labels.specs.Texts.{isText}
 use Rattle.labels.proofs.Tabs.{text-long, text-short}

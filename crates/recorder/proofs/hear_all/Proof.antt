@@ -68,12 +68,13 @@ loop-less c =
 
 loop-again : tie.Need-loop-again Inv-loop μ-loop
 loop-again c =
+    let list-call-at = c .before .before .before .before .before .before .before .before .before in
     let heard-at = c .before .before .before .before .before .before .before .before .before .before .before .before .before .before .before in
     let test-at = heard-at .before .before .before .before .before in
     let at = test-at .before .loop in
     let a = test-at .before .before .before .before .before .before .args in
     let heard = heard-at .hear in
-    head-heard (now (a .bytes)) (now (a .out)) (now (a .orders)) (at .out) (at .orders) (record { device = at .device; frame = at .frame; last = at .last }) (record { buffer = at .buf }) (at .written) (at .listed) (at .i) (at .inv) (test-at .loop-test .taken) _ (heard .ensures .0) (heard .ensures .1 .0) (heard .ensures .1 .1 .0) _ _ _ _ (c .before .before .before .append .ensures .1) (c .before .before .before .append .ensures .0) (c .before .before .before .before .before .before .before .before .before .list-call .ensures .1) (c .before .before .before .before .before .before .before .before .before .list-call .ensures .0)
+    head-heard (now (a .bytes)) (now (a .out)) (now (a .orders)) (at .out) (at .orders) (record { device = at .device; frame = at .frame; last = at .last }) (record { buffer = at .buf }) (at .written) (at .listed) (at .i) (at .inv) (test-at .loop-test .taken) _ (heard .ensures .0) (heard .ensures .1 .0) (heard .ensures .1 .1 .0) _ _ _ _ (c .before .before .before .append .ensures .1) (c .before .before .before .append .ensures .0) (list-call-at .list-call .ensures .1) (list-call-at .list-call .ensures .0)
 
 same-length : tie.Need-same-length Inv-loop μ-loop
 same-length c = c .before .before .loop .inv .outs
