@@ -1,5 +1,6 @@
 // The reasons against a command, asked one by one (PROTOCOL chapter 5, *Refused*).
 use crate::views::When;
+use amounts::PRICE_LIMIT;
 use books::Books;
 use books::parts;
 use books::rates;
@@ -29,7 +30,7 @@ pub fn either(a: bool, b: bool) -> bool
 pub fn is_price(n: u64) -> bool
     ensures { λ r. ⌜ r ≡ isPrice n ⌝ }
 {
-    n < 10000000000
+    n < PRICE_LIMIT
 }
 
 // What a 53 can give: the rest, or a PRICE above zero.
