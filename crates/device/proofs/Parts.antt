@@ -20,7 +20,7 @@ use Rattle.line.specs.Calls.{beforeOf, isRepeat, isQuiet, callOf, calledOf}
 use Rattle.line.specs.Listening.{frameAfter, listenedTo, frameBehind}
 use Rattle.line.specs.declared.Call.{Call}
 use Rattle.line.specs.declared.Call.the-variants.{Quiet, Nak, Again, Order}
-use Rattle.line.specs.declared.Line.{Line}
+use Rattle.line.specs.declared.Port.{Port}
 use Rattle.line.specs.declared.Listened.{Listened}
 use Rattle.books.specs.declared.Books.{Books}
 use Rattle.store.specs.Store.{Store}
@@ -34,20 +34,20 @@ use Rattle.device.proofs.Turning.{Standing-in, heard-whole, same-repeat
 
 -- what is listened to, then what it asks for
 module _ (b : Books) (last : List ℕ) (lent : Lent) where
-  abbrev at : Line → List ℕ → Machine
+  abbrev at : Port → List ℕ → Machine
   at l frame = record { device = record { line = l; books = b }; frame = frame; last = last }
 
   abbrev halves : Listened → List ℕ → PartHeard
   halves x frame = record { after = answering (x .call) (at (x .line) frame) lent; call = x .call; taken = x .taken }
 
-  two-halves : (bytes : List ℕ) (l : Line) (frame : List ℕ) → halves (listenedTo l frame bytes) (frameBehind l frame bytes) ≡ hearing (at l frame) lent bytes
+  two-halves : (bytes : List ℕ) (l : Port) (frame : List ℕ) → halves (listenedTo l frame bytes) (frameBehind l frame bytes) ≡ hearing (at l frame) lent bytes
   two-halves [] l frame = refl
   two-halves (x ∷ xs) l frame = go (isQuiet (callAt m lent x)) refl (two-halves xs next kept)
     where
       m : Machine
       m = at l frame
 
-      next : Line
+      next : Port
       next = calledOf l frame x .line
 
       kept : List ℕ

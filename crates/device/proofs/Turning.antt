@@ -18,7 +18,7 @@ use Rattle.line.specs.Calls.{beforeOf, isRepeat, isQuiet, callOf, calledOf}
 use Rattle.line.specs.Listening.{frameAfter}
 use Rattle.line.specs.declared.Call.{Call}
 use Rattle.line.specs.declared.Call.the-variants.{Quiet, Nak, Again, Order}
-use Rattle.line.specs.declared.Line.{Line}
+use Rattle.line.specs.declared.Port.{Port}
 use Rattle.line.specs.declared.Previous.{Previous}
 use Rattle.line.specs.declared.Previous.the-variants.{Nothing, Frame}
 use Rattle.store.specs.Store.{Store}

@@ -1,8 +1,8 @@
 // The device: a byte in; nothing, NAK or a whole answer out (PROTOCOL 1.1).
 use books::Books;
 use line::Call;
-use line::Line;
 use line::MOST_HELD;
+use line::Port;
 use line::Previous;
 use reader::FRAME_ROOM;
 use wire::ANSWER_ROOM;
@@ -21,7 +21,7 @@ ghost use Rattle.device.specs.Private.{AtLength};
 
 // What a device holds by value; its two arrays are lent with every call, as it left them.
 pub struct Device {
-    pub line: Line,
+    pub line: Port,
     pub books: Books,
 }
 
@@ -156,7 +156,7 @@ fn order(
     let line = device.line;
     let reader = line.reader;
     let previous = Previous::Frame { seq, code, count };
-    let next = Line { reader, previous };
+    let next = Port { reader, previous };
     gave(
         Device {
             line: next,

@@ -19,7 +19,7 @@ use Rattle.stretches.specs.declared.Stretch.{Stretch}
 use Rattle.line.specs.Calls.{callFor, isRepeat, isQuiet, calledOf}
 use Rattle.line.specs.Listening.{frameAfter, listenedTo, frameBehind}
 use Rattle.line.specs.declared.Call.the-variants.{Quiet, Again, Order}
-use Rattle.line.specs.declared.Line.{Line}
+use Rattle.line.specs.declared.Port.{Port}
 use Rattle.line.specs.declared.Listened.{Listened}
 use Rattle.line.specs.declared.Previous.{Previous}
 use Rattle.line.specs.declared.Previous.the-variants.{Nothing, Frame}
@@ -51,10 +51,10 @@ quiet-silent p (heards.Whole s c n) = go (isRepeat p s c)
     go false = refl
 
 -- listening is a stretch of reading
-abbrev listenedOf : Line → Stretch → Listened
+abbrev listenedOf : Port → Stretch → Listened
 listenedOf l s = record { line = record { reader = s .reader; previous = l .previous }; call = callFor (l .previous) (s .heard); taken = s .taken }
 
-as-stretch : (bytes : List ℕ) (l : Line) (frame : List ℕ)
+as-stretch : (bytes : List ℕ) (l : Port) (frame : List ℕ)
     → (listenedTo l frame bytes ≡ listenedOf l (stretched ToDevice (l .reader) frame bytes .stretch)) × (frameBehind l frame bytes ≡ stretched ToDevice (l .reader) frame bytes .array)
 as-stretch [] l frame = (refl, refl)
 as-stretch (b ∷ bs) l frame = go (isSilent h) (quiet-silent (l .previous) h) (as-stretch bs now kept)
@@ -62,7 +62,7 @@ as-stretch (b ∷ bs) l frame = go (isSilent h) (quiet-silent (l .previous) h) (
     h : Heard
     h = heardOf (read ToDevice (placeOf (l .reader) frame) b .event)
 
-    now : Line
+    now : Port
     now = calledOf l frame b .line
 
     kept : List ℕ
@@ -91,14 +91,14 @@ as-stretch (b ∷ bs) l frame = go (isSilent h) (quiet-silent (l .previous) h) (
     go s q e = subst (λ z. Same z s) (sym q) (both s e)
 
 -- so is what the code gives back
-pub listens : (l : Line) (frame bytes : List ℕ) (s : Stretch) (frame' : List ℕ) → record { stretch = s; array = frame' } ≡ stretched ToDevice (l .reader) frame bytes
+pub listens : (l : Port) (frame bytes : List ℕ) (s : Stretch) (frame' : List ℕ) → record { stretch = s; array = frame' } ≡ stretched ToDevice (l .reader) frame bytes
     → (r : Listened) → r ≡ listenedOf l s → (r ≡ listenedTo l frame bytes) × (frame' ≡ frameBehind l frame bytes)
 listens l frame bytes s frame' e r er =
     let whole = as-stretch bytes l frame in
     (er ∙ ap (λ (z : Stretched). listenedOf l (z .stretch)) e ∙ sym (whole .0), ap (λ (z : Stretched). z .array) e ∙ sym (whole .1))
 
 -- no more bytes are taken than there are
-pub listened-within : (bytes : List ℕ) (l : Line) (frame : List ℕ) → listenedTo l frame bytes .taken ≤ length bytes
+pub listened-within : (bytes : List ℕ) (l : Port) (frame : List ℕ) → listenedTo l frame bytes .taken ≤ length bytes
 listened-within [] l frame = omega arith
 listened-within (b ∷ bs) l frame = go (isQuiet (calledOf l frame b .call)) (listened-within bs (calledOf l frame b .line) (frameAfter l frame b))
   where
@@ -111,7 +111,7 @@ listened-within (b ∷ bs) l frame = go (isQuiet (calledOf l frame b .call)) (li
     go false h = omega arith
 
 -- and of some bytes at least one
-pub listened-some : (bytes : List ℕ) (l : Line) (frame : List ℕ) → 0 < length bytes → 0 < listenedTo l frame bytes .taken
+pub listened-some : (bytes : List ℕ) (l : Port) (frame : List ℕ) → 0 < length bytes → 0 < listenedTo l frame bytes .taken
 listened-some [] l frame h = absurd (omega arith)
 listened-some (b ∷ bs) l frame h = go (isQuiet (calledOf l frame b .call))
   where

@@ -12,7 +12,7 @@ use Rattle.reader.specs.declared.Heard.the-variants as heards
 use Rattle.line.specs.Turns.{Before, none, was}
 use Rattle.line.specs.declared.Call.{Call}
 use Rattle.line.specs.declared.Call.the-variants.{Quiet, Nak, Again, Order}
-use Rattle.line.specs.declared.Line.{Line}
+use Rattle.line.specs.declared.Port.{Port}
 use Rattle.line.specs.declared.Previous.{Previous}
 use Rattle.line.specs.declared.Previous.the-variants.{Nothing, Frame}
 
@@ -44,10 +44,10 @@ callOf p e = callFor p (heardOf e)
 
 -- PROTOCOL 1.1: one byte heard on the line
 pub record Called : Type 0 where
-  pub line : Line
+  pub line : Port
   pub call : Call
 
-abbrev pub calledOf : Line → List ℕ → ℕ → Called
+abbrev pub calledOf : Port → List ℕ → ℕ → Called
 calledOf l frame b =
     let step = read ToDevice (placeOf (l .reader) frame) b in
     record { line = record { reader = readerOf (step .place); previous = l .previous }; call = callOf (l .previous) (step .event) }

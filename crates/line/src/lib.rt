@@ -15,7 +15,8 @@ pub enum Previous {
     Frame { seq: u8, code: u8, count: usize },
 }
 
-pub struct Line {
+// The device's end of the line: where reading stands, and the frame before.
+pub struct Port {
     pub reader: Reader,
     pub previous: Previous,
 }
@@ -33,24 +34,24 @@ pub enum Call {
 
 // Bytes of a lent part, up to and including the first that asks for something: what it asks, and how many they were.
 pub struct Listened {
-    pub line: Line,
+    pub line: Port,
     pub call: Call,
     pub taken: usize,
 }
 
 // A line on which nothing has come.
-pub fn fresh() -> Line
+pub fn fresh() -> Port
     ensures { λ r. ⌜ r ≡ record { reader = readerOf outside; previous = Nothing } ⌝ }
 {
     let reader = reader::fresh();
-    Line {
+    Port {
         reader,
         previous: Previous::Nothing,
     }
 }
 
 // Listening to a lent part: what the first byte that asks for something asks, and how many bytes were taken.
-pub fn listen(line: Line, frame: &mut [u8; FRAME_ROOM], bytes: &[u8]) -> Listened
+pub fn listen(line: Port, frame: &mut [u8; FRAME_ROOM], bytes: &[u8]) -> Listened
     ensures { λ r. ⌜ r ≡ listenedTo line (now (frame .entry)) (now (bytes .entry)) ⌝ }
     ensures { λ r. ⌜ now (frame .exit) ≡ frameBehind line (now (frame .entry)) (now (bytes .entry)) ⌝ }
 {
@@ -66,7 +67,7 @@ fn asks(reader: Reader, previous: Previous, heard: Heard, taken: usize) -> Liste
     ensures { λ r. ⌜ r ≡ record { line = record { reader = reader; previous = previous }; call = callFor previous heard; taken = taken } ⌝ }
 {
     let call = call_for(previous, heard);
-    let line = Line { reader, previous };
+    let line = Port { reader, previous };
     Listened { line, call, taken }
 }
 
