@@ -10,22 +10,23 @@ use deeds::texts;
 use kinds::Command;
 use rules::views;
 use rules::views::View;
+use sheet::Match;
 ghost use mathlib.Core.Path.{_≡_};
 ghost use Rattle.deeds.specs.Deeds.{deedOf, carriedOut};
 
-// Any command on any books.
-pub fn carry_out(books: Books, command: Command) -> Deed
-    ensures { λ r. ⌜ r ≡ carriedOut books command ⌝ }
+// Any command on any books, with what the sheet says to it.
+pub fn carry_out(books: Books, m: Match, command: Command) -> Deed
+    ensures { λ r. ⌜ r ≡ carriedOut books m command ⌝ }
 {
-    act(books, views::view_of(command))
+    act(books, m, views::view_of(command))
 }
 
-fn act(books: Books, view: View) -> Deed
-    ensures { λ r. ⌜ r ≡ deedOf books view ⌝ }
+fn act(books: Books, m: Match, view: View) -> Deed
+    ensures { λ r. ⌜ r ≡ deedOf books m view ⌝ }
 {
     match view {
         View::Opens(p) => fiscal::open_fiscal(books, p),
-        View::Sells(s) => sales::sell(books, s),
+        View::Sells(s) => sales::sell(books, m, s),
         View::Pays(p) => sales::pay(books, p),
         View::Closes => fiscal::close(books),
         View::Cancels => sales::cancel(books),

@@ -7,16 +7,18 @@ use native.Mathlib.Omega.{arith}
 use lib.ListN.{length, take, drop, length-append, length-drop}
 use lib.Seq.{sets, length-sets, length-take-le}
 use borrow.Author.Tests.{lt-ltb, le-ltb}
-use Rattle.wire.specs.Frame.{Message, commandOf, answerOf, frame}
+use Rattle.wire.specs.Frame.{answerOf, frame}
 use Rattle.wire.specs.Replies.{replyOf, sealing}
 use Rattle.wire.specs.declared.Built.{Built}
 use Rattle.wire.specs.declared.Built.the-variants as built
 use Rattle.wire.specs.declared.Way.the-variants.{ToTill}
 use Rattle.wire.proofs.Building.{length-enclosed, around, seal-done}
-use Rattle.command.specs.Commands.{parsedOf}
+use Rattle.kinds.specs.declared.Parsed.{Parsed}
+use Rattle.sheet.specs.declared.Match.{Match}
+use Rattle.sheet.specs.declared.Note.the-variants.{Nothing}
 use Rattle.books.specs.declared.Books.{Books}
 use Rattle.deeds.specs.declared.Deed.{Deed}
-use Rattle.carrying.specs.Carrying.{deedFor, answerTo, carriedAs, carry}
+use Rattle.carrying.specs.Carrying.{deedFor, answerBytes}
 use Rattle.carrying.specs.Work.{Worked, workDone, worked, sizeOf}
 
 reply-count : (b : Built) (l : List ℕ) → replyOf b l .count ≡ sizeOf b
@@ -64,22 +66,19 @@ module _ (l content status made : List ℕ) (seq code n : ℕ) (b1 b2 : List ℕ
       around l content seq code (λ z. z ++ 0x04 ∷ status) (omega (arith, length-append content (0x04 ∷ status))) (omega (arith, length-append content (0x04 ∷ status), six)) b1 b2 e1
       (sym (reply-buffer b b2) ∙ ap (λ r. r .buffer) (eb ∙ sealed) ∙ ap (λ k. sets b1 0 (frame ToTill (answerOf seq code (take k (drop 4 b1)) status))) en)
 
--- what the books did, as work
-pub work-is : (b : Books) (seq code : ℕ) (content : List ℕ) (d : Deed) → d ≡ deedFor b (parsedOf code content) → (size : ℕ) (l b2 : List ℕ)
-    → size ≡ length (frame ToTill (answerTo b seq code d)) → b2 ≡ sets l 0 (frame ToTill (answerTo b seq code d))
-    → record { work = record { number = d .number; books = d .books; count = size }; buffer = b2 } ≡ workDone (carry (record { books = b }) (commandOf seq code content)) l
-work-is b seq code content d ed size l b2 es e2 =
-    ap (λ z. record { work = record { number = d .number; books = d .books; count = z }; buffer = b2 }) es
-    ∙ ap (λ z. record { work = record { number = d .number; books = d .books; count = length (frame ToTill (answerTo b seq code d)) }; buffer = z }) e2
-    ∙ ap (λ z. workDone (carriedAs (record { books = b }) seq code z) l) ed
+-- a deed as work
+pub work-is : (b : Books) (seq code : ℕ) (d : Deed) (size : ℕ) (l b2 : List ℕ) → size ≡ length (answerBytes b seq code d) → b2 ≡ sets l 0 (answerBytes b seq code d)
+    → record { work = record { number = d .number; books = d .books; count = size; note = d .note }; buffer = b2 } ≡ workDone b seq code d l
+work-is b seq code d size l b2 es e2 =
+    λ i. record { work = record { number = d .number; books = d .books; count = es i; note = d .note }; buffer = e2 i }
 
 -- with the buffer's length known
-module _ (b : Books) (m : Message) (l : List ℕ) where
+module _ (b : Books) (m : Match) (seq code : ℕ) (p : Parsed) (l : List ℕ) where
   abbrev short : Worked
-  short = record { work = record { number = 7; books = b; count = 0 }; buffer = l }
+  short = record { work = record { number = 7; books = b; count = 0; note = Nothing }; buffer = l }
 
-  pub worked-short : length l < 217 → short ≡ worked b m l
-  worked-short h = sym (ap (λ z. cond z short (workDone (carry (record { books = b }) m) l)) (lt-ltb (length l) 217 h))
+  pub worked-short : length l < 217 → short ≡ worked b m seq code p l
+  worked-short h = sym (ap (λ z. cond z short (workDone b seq code (deedFor b m p) l)) (lt-ltb (length l) 217 h))
 
-  pub worked-long : 217 ≤ length l → workDone (carry (record { books = b }) m) l ≡ worked b m l
-  worked-long h = sym (ap (λ z. cond z short (workDone (carry (record { books = b }) m) l)) (le-ltb (length l) 217 h))
+  pub worked-long : 217 ≤ length l → workDone b seq code (deedFor b m p) l ≡ worked b m seq code p l
+  worked-long h = sym (ap (λ z. cond z short (workDone b seq code (deedFor b m p) l)) (le-ltb (length l) 217 h))

@@ -2,26 +2,43 @@
 use books::Books;
 use deeds::Deed;
 use kinds::Parsed;
+use rules::searches;
+use rules::views;
+use sheet::Match;
+use sheet::Note;
+use sheet::Search;
 use wire::ANSWER_ROOM;
 use wire::Built;
 use wire::build;
 ghost use mathlib.Core.Path.{_≡_};
 ghost use Prim.Native.Nat.{_≤_};
 ghost use lib.ListN.{length};
-ghost use Rattle.wire.specs.Frame.{commandOf};
-ghost use Rattle.carrying.specs.Carrying.{deedFor, carry};
+ghost use Rattle.carrying.specs.Carrying.{searchIn, deedFor};
 ghost use Rattle.carrying.specs.Work.{worked, workDone, sizeOf};
 
-// A command carried out: what is given back is the first `count` bytes of the lent buffer.
+// A command carried out: what is given back is the first `count` bytes of the lent buffer; the note is for the sheet.
 pub struct Work {
     pub number: u64,
     pub books: Books,
     pub count: usize,
+    pub note: Note,
 }
 
-// A command with its SEQ, CMD and data. The whole answer is built in the lent buffer; with less than 217 bytes it is 7.
-pub fn carry_out(books: Books, seq: u8, code: u8, content: &[u8], buf: &mut [u8]) -> Work
-    ensures { λ r. ⌜ record { work = r; buffer = now (buf .exit) } ≡ worked books (commandOf seq code (now (content .entry))) (now (buf .entry)) ⌝ }
+// What a command looks for in the sheet.
+pub fn search_in(books: Books, parsed: Parsed) -> Search
+    ensures { λ r. ⌜ r ≡ searchIn books parsed ⌝ }
+{
+    match parsed {
+        Parsed::Read(c) => searches::search_for(books, views::view_of(c)),
+        Parsed::Syntax => searches::no_search(),
+        Parsed::Unknown => searches::no_search(),
+    }
+}
+
+// A command with its SEQ and CMD, its data as read, and what the sheet says to it. The whole answer is built in the lent buffer; with
+// less than 217 bytes it is 7.
+pub fn carry_out(books: Books, m: Match, seq: u8, code: u8, parsed: Parsed, buf: &mut [u8]) -> Work
+    ensures { λ r. ⌜ record { work = r; buffer = now (buf .exit) } ≡ worked books m seq code parsed (now (buf .entry)) ⌝ }
     ensures { λ r. ⌜ r .count ≤ 217 ⌝ }
 {
     if buf.len() < ANSWER_ROOM {
@@ -29,20 +46,21 @@ pub fn carry_out(books: Books, seq: u8, code: u8, content: &[u8], buf: &mut [u8]
             number: 7,
             books,
             count: 0,
+            note: Note::Nothing,
         };
     }
-    answer(books, seq, code, content, buf)
+    answer(books, deed_for(books, m, parsed), seq, code, buf)
 }
 
-fn answer(books: Books, seq: u8, code: u8, content: &[u8], buf: &mut [u8]) -> Work
+fn answer(books: Books, deed: Deed, seq: u8, code: u8, buf: &mut [u8]) -> Work
     requires { ⌜ 217 ≤ length (now buf) ⌝ }
-    ensures { λ r. ⌜ record { work = r; buffer = now (buf .exit) } ≡ workDone (carry (record { books = books }) (commandOf seq code (now (content .entry)))) (now (buf .entry)) ⌝ }
+    ensures { λ r. ⌜ record { work = r; buffer = now (buf .exit) } ≡ workDone books seq code deed (now (buf .entry)) ⌝ }
     ensures { λ r. ⌜ r .count ≤ 217 ⌝ }
 {
-    let deed = deed_for(books, command::parse(code, content));
     let day = books.day;
     let shown = deed.shown;
     let number = deed.number;
+    let note = deed.note;
     let after = deed.books;
     let sums = after.day;
     let receipt = after.receipt;
@@ -55,6 +73,7 @@ fn answer(books: Books, seq: u8, code: u8, content: &[u8], buf: &mut [u8]) -> Wo
         number,
         books: after,
         count: size_of(built),
+        note,
     }
 }
 
@@ -65,11 +84,11 @@ fn sized(day: [u64; 8], sums: [u64; 8], groups: [u64; 8]) -> bool
     true
 }
 
-fn deed_for(books: Books, parsed: Parsed) -> Deed
-    ensures { λ r. ⌜ r ≡ deedFor books parsed ⌝ }
+fn deed_for(books: Books, m: Match, parsed: Parsed) -> Deed
+    ensures { λ r. ⌜ r ≡ deedFor books m parsed ⌝ }
 {
     match parsed {
-        Parsed::Read(c) => acts::carry_out(books, c),
+        Parsed::Read(c) => acts::carry_out(books, m, c),
         Parsed::Syntax => deeds::refuse(1, books),
         Parsed::Unknown => deeds::refuse(2, books),
     }

@@ -9,12 +9,13 @@ use rules::tests::either;
 use rules::tests::is_price;
 use rules::tests::passes;
 ghost use mathlib.Core.Path.{_≡_};
+ghost use Rattle.sheet.specs.Sheet.{noMatch};
 ghost use Rattle.rules.specs.declared.views.View.the-variants.{Puts, Takes};
 ghost use Rattle.deeds.specs.Deeds.{deedOf};
 
 // 70 with an amount: it is put into the drawer.
 pub fn put_in(books: Books, n: u64) -> Deed
-    ensures { λ r. ⌜ r ≡ deedOf books (Puts n) ⌝ }
+    ensures { λ r. ⌜ r ≡ deedOf books noMatch (Puts n) ⌝ }
 {
     let opened = books.opened;
     let drawer = books.drawer;
@@ -35,7 +36,7 @@ pub fn put_in(books: Books, n: u64) -> Deed
 
 // 70 with `-` and an amount: it is taken out.
 pub fn take_out(books: Books, n: u64) -> Deed
-    ensures { λ r. ⌜ r ≡ deedOf books (Takes n) ⌝ }
+    ensures { λ r. ⌜ r ≡ deedOf books noMatch (Takes n) ⌝ }
 {
     let opened = books.opened;
     let drawer = books.drawer;

@@ -10,12 +10,13 @@ use books::parts;
 use rules::tests::are_many;
 use rules::tests::either;
 ghost use mathlib.Core.Path.{_≡_};
+ghost use Rattle.sheet.specs.Sheet.{noMatch};
 ghost use Rattle.rules.specs.declared.views.View.the-variants.{OpensText, ClosesText};
 ghost use Rattle.deeds.specs.Deeds.{deedOf};
 
 // 38: a non-fiscal receipt is opened.
 pub fn open_text(books: Books) -> Deed
-    ensures { λ r. ⌜ r ≡ deedOf books OpensText ⌝ }
+    ensures { λ r. ⌜ r ≡ deedOf books noMatch OpensText ⌝ }
 {
     let opened = books.opened;
     let counters = books.counters;
@@ -35,7 +36,7 @@ pub fn open_text(books: Books) -> Deed
 
 // 39: the non-fiscal receipt is closed.
 pub fn close_text(books: Books) -> Deed
-    ensures { λ r. ⌜ r ≡ deedOf books ClosesText ⌝ }
+    ensures { λ r. ⌜ r ≡ deedOf books noMatch ClosesText ⌝ }
 {
     let opened = books.opened;
     if !parts::text_open(opened) {

@@ -2,6 +2,7 @@
 use Prim.Native.Nat.{ℕ, _-_, _≤_, _<_}
 use mathlib.Core.Path.{_≡_}
 use mathlib.Core.List.{List, [], _∷_}
+use lib.ListN.{length}
 use Rattle.kinds.specs.declared.Mode.{Mode}
 use Rattle.kinds.specs.declared.Mode.the-variants.{N, C, D, B}
 use Rattle.books.specs.Groups.{eight, at}
@@ -11,6 +12,7 @@ use Rattle.books.specs.declared.Drawer.{Drawer}
 use Rattle.receipt.specs.declared.Receipt.{Receipt}
 use Rattle.store.specs.Store.{Store}
 use Rattle.history.specs.Entries.{Entry}
+use Rattle.history.specs.Sold.{Holds}
 use Rattle.history.specs.History.{ReceiptTold, DrawerTold, Figures, totalIn, dueIn, figuresOf}
 
 -- PROTOCOL 8.3: the fiscal receipt, its eight groups from 0
@@ -40,8 +42,12 @@ pub record Says (f : Figures) (books : Books) : Type 0 where
   pub counters : books .counters ≡ f .counters
   pub memory : books .memory ≡ f .memory
 
-abbrev pub Agrees : List Entry → Store → Type 0
-Agrees es s = Says (figuresOf es) (s .books)
+-- PROTOCOL 8.3, 8.8: what a device remembers: its books, and in a sheet of 512 lines or more those of the open receipt
+pub record Agrees (es : List Entry) (s : Store) : Type 0 where
+  pub books : Says (figuresOf es) (s .books)
+  pub lines : Holds (s .sheet) (figuresOf es .receipt .sold)
+  pub count : length (figuresOf es .receipt .sold) ≡ figuresOf es .receipt .lines
+  pub room : 512 ≤ length (s .sheet)
 
 -- PROTOCOL 8.3: the books as the entries alone tell them, no field left out
 abbrev pub booksBy : Figures → Books
@@ -65,7 +71,3 @@ booksBy f =
 
 abbrev pub toldBooks : List Entry → Books
 toldBooks es = booksBy (figuresOf es)
-
--- PROTOCOL 8.3: and all that a device remembers
-abbrev pub toldStore : List Entry → Store
-toldStore es = record { books = toldBooks es }

@@ -3,6 +3,7 @@ use Prim.Native.Nat.{ℕ, _^_, _<_}
 use mathlib.Core.Path.{_≡_}
 use mathlib.Core.Bool.{false}
 use Rattle.amounts.specs.Amounts.{taxOf}
+use Rattle.sheet.specs.declared.Match.{Match}
 use Rattle.books.specs.Groups.{at}
 use Rattle.books.specs.declared.Books.{Books}
 use Rattle.books.specs.declared.Shown.{Shown}
@@ -41,5 +42,5 @@ leftOf shown.Rates = 0
 
 -- DECISIONS 57, 58: a command as data gives it: no number that is 1, and where it only asks neither rest nor change is shown
 pub record Given (v : View) : Type 0 where
-  pub one : (b : Books) → ruleOf b v .one ≡ false
+  pub one : (b : Books) (m : Match) → ruleOf b m v .one ≡ false
   pub rest : ofAsked 0 leftOf v ≡ 0

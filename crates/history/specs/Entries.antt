@@ -5,7 +5,6 @@ use mathlib.Core.List.{List}
 use lib.Dec.{eqb}
 use Rattle.kinds.specs.declared.Command.{Command}
 use Rattle.kinds.specs.declared.Payment.{Payment}
-use Rattle.kinds.specs.declared.Sale.{Sale}
 use Rattle.books.specs.declared.Books.{Books}
 use Rattle.books.specs.declared.Shown.{Shown}
 use Rattle.books.specs.declared.Shown.the-variants.{Nothing}
@@ -52,21 +51,8 @@ codeOf (Asks when shown) = 0
 abbrev pub does : ℕ → View → Bool
 does code v = eqb (codeOf v) code
 
--- what a line, a payment, 70 with an amount, and a command that only asks hold; of every other view `none`
+-- what a payment, 70 with an amount, and a command that only asks hold; of every other view `none` (of a line: `ofSale` of the views)
 module _ {A : Type 0} (none : A) where
-  abbrev pub ofSale : (Sale → A) → View → A
-  ofSale f (Opens password) = none
-  ofSale f (Sells s) = f s
-  ofSale f (Pays p) = none
-  ofSale f Closes = none
-  ofSale f Cancels = none
-  ofSale f OpensText = none
-  ofSale f ClosesText = none
-  ofSale f Clears = none
-  ofSale f (Puts n) = none
-  ofSale f (Takes n) = none
-  ofSale f (Asks when shown) = none
-
   abbrev pub ofPayment : (Payment → A) → View → A
   ofPayment f (Opens password) = none
   ofPayment f (Sells s) = none

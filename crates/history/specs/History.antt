@@ -10,7 +10,7 @@ use Rattle.kinds.specs.declared.Mode.{Mode}
 use Rattle.kinds.specs.declared.Mode.the-variants.{Cash}
 use Rattle.kinds.specs.declared.Payment.{Payment}
 use Rattle.kinds.specs.declared.Sale.{Sale}
-use Rattle.receipt.specs.Lines.{productOf, finishedOf}
+use Rattle.sheet.specs.declared.Line.{Line}
 use Rattle.receipt.specs.Receipts.{givenOf}
 use Rattle.books.specs.Groups.{eight, sum}
 use Rattle.books.specs.Registers.{place}
@@ -18,13 +18,17 @@ use Rattle.books.specs.declared.Counters.{Counters}
 use Rattle.books.specs.declared.Memory.{Memory}
 use Rattle.books.specs.declared.Opened.{Opened}
 use Rattle.books.specs.declared.Opened.the-variants.{Nothing, Fiscal, Text}
+use Rattle.rules.specs.Views.{ofSale}
 use Rattle.rules.specs.declared.views.View.{View}
-use Rattle.history.specs.Entries.{Entry, didOf, does, ofSale, ofPayment, ofService}
+use Rattle.history.specs.Entries.{Entry, didOf, does, ofPayment, ofService}
+use Rattle.history.specs.Sold.{amountTold, soldAfter}
 
--- PROTOCOL 5.4, 5.6: the open fiscal receipt: its eight sums, its lines, what was paid, whether a 53 was done, and one in full
+-- PROTOCOL 5.4, 5.6: the open fiscal receipt: its eight sums, how many lines it has, and which, the newest first; what was paid, whether a 53 was done, and
+-- one in full
 pub record ReceiptTold : Type 0 where
   pub sums : ℕ → ℕ
   pub lines : ℕ
+  pub sold : List Line
   pub paid : ℕ
   pub tried : Bool
   pub settled : Bool
@@ -50,18 +54,25 @@ pub record Figures : Type 0 where
 abbrev pub openedAfter : View → Opened → Opened
 openedAfter v o = cond (does 48 v) Fiscal (cond (does 38 v) Text (cond (does 39 v || does 56 v || does 60 v) Nothing o))
 
--- PROTOCOL 6.5: a group is its finished lines less the lines taken off
-module _ (g : ℕ) (s : Sale) where
+-- PROTOCOL 6.5: a group is its finished lines less those taken back; what a line takes off is told from the lines before it
+module _ (g : ℕ) (ls : List Line) (s : Sale) where
   abbrev pub added : ℕ
-  added = cond (eqb (s .group) g && not (s .minus)) (finishedOf (productOf s) (s .adjust)) 0
+  added = cond (eqb (s .group) g && not (s .minus)) (amountTold ls s) 0
 
   abbrev pub takenOff : ℕ
-  takenOff = cond (eqb (s .group) g && s .minus) (productOf s) 0
+  takenOff = cond (eqb (s .group) g && s .minus) (amountTold ls s) 0
 
 -- PROTOCOL 5.4: 49: one line more, those taken off counted
 abbrev pub withSale : ReceiptTold → Sale → ReceiptTold
 withSale r s =
-    record { sums = λ g. r .sums g + added g s - takenOff g s; lines = r .lines + 1; paid = r .paid; tried = r .tried; settled = r .settled }
+    record {
+      sums = λ g. r .sums g + added g (r .sold) s - takenOff g (r .sold) s;
+      lines = r .lines + 1;
+      sold = soldAfter (r .sold) s;
+      paid = r .paid;
+      tried = r .tried;
+      settled = r .settled;
+    }
 
 -- PROTOCOL 6.5: the total is the sum of the eight groups. PROTOCOL 5.6: the rest of it is still due
 abbrev pub totalIn : ReceiptTold → ℕ
@@ -85,11 +96,18 @@ brought r p shown = givenOf (dueIn r) (p .tender) - changeOf shown
 -- PROTOCOL 5.6: 53: that much more is paid; an `R`, and nothing else, makes it paid in full
 abbrev pub withPayment : ReceiptTold → Payment → List ℕ → ReceiptTold
 withPayment r p shown =
-    record { sums = r .sums; lines = r .lines; paid = r .paid + brought r p shown; tried = true; settled = saysR shown || r .settled }
+    record {
+      sums = r .sums;
+      lines = r .lines;
+      sold = r .sold;
+      paid = r .paid + brought r p shown;
+      tried = true;
+      settled = saysR shown || r .settled;
+    }
 
 -- PROTOCOL 5.3, 5.7, 5.8: the fiscal receipt starts afresh at 48, and 56 and 60 leave nothing of it (DECISIONS 25)
 abbrev pub noneTold : ReceiptTold
-noneTold = record { sums = λ g. 0; lines = 0; paid = 0; tried = false; settled = false }
+noneTold = record { sums = λ g. 0; lines = 0; sold = []; paid = 0; tried = false; settled = false }
 
 abbrev pub receiptAfter : View → List ℕ → ReceiptTold → ReceiptTold
 receiptAfter v shown r =

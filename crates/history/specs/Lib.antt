@@ -1,4 +1,5 @@
 pub mod Entries
+pub mod Sold
 pub mod History
 pub mod Agrees
 pub mod Reached

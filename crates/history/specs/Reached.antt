@@ -3,6 +3,7 @@ use Prim.Native.Nat.{_≤_}
 use mathlib.Core.Path.{_≡_}
 use mathlib.Core.Bool.{true, false}
 use lib.ListN.{length, replicate}
+use Rattle.sheet.specs.declared.Note.the-variants as note
 use Rattle.receipt.specs.Receipts.{emptyReceipt}
 use Rattle.receipt.specs.declared.Receipt.{Receipt}
 use Rattle.books.specs.Books.{fiscalOpen}
@@ -12,10 +13,11 @@ use Rattle.books.specs.declared.Books.{Books}
 use Rattle.books.specs.declared.Shown.the-variants as shown
 use Rattle.deeds.specs.declared.Deed.{Deed}
 
--- PROTOCOL 2.3, 5.1: 1 to 4 change nothing in the books, and the answer has no data
+-- PROTOCOL 2.3, 5.1: 1 to 4 change nothing in books or sheet, and the answer has no data
 pub record Unchanged (b : Books) (d : Deed) : Type 0 where
   pub books : d .books ≡ b
   pub shown : d .shown ≡ shown.Nothing
+  pub note : d .note ≡ note.Nothing
   pub number : d .number ≤ 4
 
 -- PROTOCOL 5.13: day sums, registers, All, Fiscal, In and Out are zero; cash stays

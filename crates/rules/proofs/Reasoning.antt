@@ -7,6 +7,7 @@ use lib.Dec.{ltb}
 use borrow.Author.Tests.{lt-leb, le-leb, leb-true, leb-false, ltb-false, not-false}
 pub use Rattle.basics.proofs.Tests.{none-of}
 use Rattle.kinds.specs.declared.Password.{Password}
+use Rattle.sheet.specs.Sheet.{noMatch}
 use Rattle.books.specs.Books.{anyOpen}
 use Rattle.books.specs.Sound.{inTwelve}
 use Rattle.books.specs.declared.Books.{Books}
@@ -34,20 +35,20 @@ passes-not s n h k = sym (ap not (le-leb (s + n) 999999999999 (omega arith)))
 pub fits-still : (s n : ℕ) → not (inTwelve (s + n)) ≡ false → s + n ≤ 999999999999
 fits-still s n e = leb-true (s + n) 999999999999 (not-false (inTwelve (s + n)) e)
 
--- 38 and 48 where they are permitted: All can go up by one
-pub few-texts : (b : Books) → ruleOf b OpensText .three ≡ false → b .counters .all < 9999
+-- 38 and 48 where they are permitted, whatever the sheet says: All can go up by one
+pub few-texts : (b : Books) → ruleOf b noMatch OpensText .three ≡ false → b .counters .all < 9999
 few-texts b e = leb-false 9999 (b .counters .all) (none-of (anyOpen (b .opened)) (manyOpened b) e .1)
 
-pub few-receipts : (b : Books) (p : Password) → ruleOf b (Opens p) .three ≡ false → b .counters .all < 9999
+pub few-receipts : (b : Books) (p : Password) → ruleOf b noMatch (Opens p) .three ≡ false → b .counters .all < 9999
 few-receipts b p e =
     let asked = not (isRight p) || anyOpen (b .opened) in
     leb-false 9999 (b .counters .all) (none-of asked (manyOpened b) (none-of (asked || manyOpened b) (full b) e .0) .1)
 
 -- 70 where it is permitted: cash and In, or Out, take the amount
-pub puts-within : (b : Books) (n : ℕ) → ruleOf b (Puts n) .four ≡ false → (b .drawer .cash + n ≤ 999999999999) × (b .drawer .put + n ≤ 999999999999)
+pub puts-within : (b : Books) (n : ℕ) → ruleOf b noMatch (Puts n) .four ≡ false → (b .drawer .cash + n ≤ 999999999999) × (b .drawer .put + n ≤ 999999999999)
 puts-within b n e =
     let e1 = none-of (not (inTwelve (b .drawer .cash + n))) (not (inTwelve (b .drawer .put + n))) e in
     (fits-still (b .drawer .cash) n (e1 .0), fits-still (b .drawer .put) n (e1 .1))
 
-pub takes-within : (b : Books) (n : ℕ) → ruleOf b (Takes n) .three ≡ false → n ≤ b .drawer .cash
+pub takes-within : (b : Books) (n : ℕ) → ruleOf b noMatch (Takes n) .three ≡ false → n ≤ b .drawer .cash
 takes-within b n e = ltb-false (b .drawer .cash) n (none-of (anyOpen (b .opened)) (ltb (b .drawer .cash) n) e .1)

@@ -3,6 +3,7 @@
 use mathlib.Core.Bool.{true, false}
 use Rattle.kinds.specs.declared.Command.{Command}
 use Rattle.kinds.specs.declared.Command.the-variants.{OpenText, CloseText, PrintText, Open, Sell, Subtotal, Pay, Close, Cancel, Sums, Closing, Drawer, Status, Rates}
+use Rattle.kinds.specs.declared.Sale.{Sale}
 use Rattle.kinds.specs.declared.Service.the-variants.{Report, In, Out}
 use Rattle.books.specs.declared.Shown.the-variants as shown
 use Rattle.rules.specs.declared.views.View.{View}
@@ -36,3 +37,18 @@ viewOf (Drawer (Out n)) = Takes n
 -- PROTOCOL 5.15, 5.16: 74 and 97 are always permitted
 viewOf Status = Asks Always shown.Status
 viewOf Rates = Asks Always shown.Rates
+
+-- what is asked of a line; of every other view it is `none`
+module _ {A : Type 0} (none : A) where
+  abbrev pub ofSale : (Sale → A) → View → A
+  ofSale f (Opens password) = none
+  ofSale f (Sells s) = f s
+  ofSale f (Pays p) = none
+  ofSale f Closes = none
+  ofSale f Cancels = none
+  ofSale f OpensText = none
+  ofSale f ClosesText = none
+  ofSale f Clears = none
+  ofSale f (Puts n) = none
+  ofSale f (Takes n) = none
+  ofSale f (Asks when shown) = none

@@ -4,6 +4,7 @@ use native.Mathlib.Omega.{arith}
 use Rattle.rules.proofs.Reasoning.{same-or, puts-within}
 use Rattle.deeds.proofs.Judging.{wrong, barred, over, allowed}
 use Rattle.rules.specs.declared.views.View.the-variants.{Puts}
+use Rattle.sheet.specs.Sheet.{noMatch}
 use borrow.Author.Needs.{needs}
 use Rattle.deeds.proofs.drawer.put_in.Statement.{statement}
 use Rattle.deeds.proofs.drawer.put_in.Tie as tie
@@ -12,14 +13,14 @@ returns : tie.Need-returns
 returns c =
     let k = c .before .before in
     let a = k .before .before .args in
-    c .refuse .ensures ∙ wrong (a .books) (Puts (a .n)) (ap not (sym (k .is-price .ensures)) ∙ c .before .if1 .taken)
+    c .refuse .ensures ∙ wrong (a .books) noMatch (Puts (a .n)) (ap not (sym (k .is-price .ensures)) ∙ c .before .if1 .taken)
 
 returns-2 : tie.Need-returns-2
 returns-2 c =
     let i = c .before .before .before in
     let a = i .before .before .before .args in
     c .refuse2 .ensures
-    ∙ barred (a .books) (Puts (a .n)) (ap not (sym (i .before .is-price .ensures)) ∙ i .if1 .left) (sym (c .before .before .any-open .ensures) ∙ c .before .if2 .taken)
+    ∙ barred (a .books) noMatch (Puts (a .n)) (ap not (sym (i .before .is-price .ensures)) ∙ i .if1 .left) (sym (c .before .before .any-open .ensures) ∙ c .before .if2 .taken)
 
 returns-3 : tie.Need-returns-3
 returns-3 c =
@@ -28,7 +29,7 @@ returns-3 c =
     let i = o .before .before in
     let a = i .before .before .before .args in
     c .refuse3 .ensures
-    ∙ over (a .books) (Puts (a .n)) (ap not (sym (i .before .is-price .ensures)) ∙ i .if1 .left) (sym (o .before .any-open .ensures) ∙ o .if2 .left)
+    ∙ over (a .books) noMatch (Puts (a .n)) (ap not (sym (i .before .is-price .ensures)) ∙ i .if1 .left) (sym (o .before .any-open .ensures) ∙ o .if2 .left)
     (same-or (k .before .before .passes .ensures) (k .before .passes2 .ensures) (k .either .ensures) ∙ c .before .if3 .taken)
 
 add-next : tie.Need-add-next
@@ -53,7 +54,7 @@ returns-4 c =
     let i = o .before .before in
     let a = i .before .before .before .args in
     rw (c .finish .ensures, c .before .with-drawer .ensures)
-    (allowed (a .books) (Puts (a .n)) (ap not (sym (i .before .is-price .ensures)) ∙ i .if1 .left) (sym (o .before .any-open .ensures) ∙ o .if2 .left)
+    (allowed (a .books) noMatch (Puts (a .n)) (ap not (sym (i .before .is-price .ensures)) ∙ i .if1 .left) (sym (o .before .any-open .ensures) ∙ o .if2 .left)
     (same-or (k .before .before .passes .ensures) (k .before .passes2 .ensures) (k .either .ensures) ∙ f .if3 .left))
 
 pub put-in-spec : {M : Type 1} → statement M

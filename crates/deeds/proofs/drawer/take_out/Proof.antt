@@ -4,6 +4,7 @@ use native.Mathlib.Omega.{arith}
 use Rattle.rules.proofs.Reasoning.{same-or, takes-within, fits-still}
 use Rattle.deeds.proofs.Judging.{wrong, barred, over, allowed}
 use Rattle.rules.specs.declared.views.View.the-variants.{Takes}
+use Rattle.sheet.specs.Sheet.{noMatch}
 use borrow.Author.Needs.{needs}
 use Rattle.deeds.proofs.drawer.take_out.Statement.{statement}
 use Rattle.deeds.proofs.drawer.take_out.Tie as tie
@@ -12,7 +13,7 @@ returns : tie.Need-returns
 returns c =
     let k = c .before .before in
     let a = k .before .before .args in
-    c .refuse .ensures ∙ wrong (a .books) (Takes (a .n)) (ap not (sym (k .is-price .ensures)) ∙ c .before .if1 .taken)
+    c .refuse .ensures ∙ wrong (a .books) noMatch (Takes (a .n)) (ap not (sym (k .is-price .ensures)) ∙ c .before .if1 .taken)
 
 returns-2 : tie.Need-returns-2
 returns-2 c =
@@ -20,7 +21,7 @@ returns-2 c =
     let i = e .before .before .before .before in
     let a = i .before .before .before .args in
     let price = ap not (sym (i .before .is-price .ensures)) ∙ i .if1 .left in
-    c .refuse2 .ensures ∙ barred (a .books) (Takes (a .n)) price (same-or (e .before .before .before .any-open .ensures) refl (e .before .either .ensures) ∙ e .if2 .taken)
+    c .refuse2 .ensures ∙ barred (a .books) noMatch (Takes (a .n)) price (same-or (e .before .before .before .any-open .ensures) refl (e .before .either .ensures) ∙ e .if2 .taken)
 
 returns-3 : tie.Need-returns-3
 returns-3 c =
@@ -29,7 +30,7 @@ returns-3 c =
     let a = i .before .before .before .args in
     let price = ap not (sym (i .before .is-price .ensures)) ∙ i .if1 .left in
     c .refuse3 .ensures
-    ∙ over (a .books) (Takes (a .n)) price (same-or (e .before .before .before .any-open .ensures) refl (e .before .either .ensures) ∙ e .if2 .left)
+    ∙ over (a .books) noMatch (Takes (a .n)) price (same-or (e .before .before .before .any-open .ensures) refl (e .before .either .ensures) ∙ e .if2 .left)
     (sym (c .before .before .passes .ensures) ∙ c .before .if3 .taken)
 
 sub-next : tie.Need-sub-next
@@ -52,7 +53,7 @@ returns-4 c =
     let a = i .before .before .before .args in
     let price = ap not (sym (i .before .is-price .ensures)) ∙ i .if1 .left in
     rw (c .finish .ensures, c .before .with-drawer .ensures)
-    (allowed (a .books) (Takes (a .n)) price (same-or (e .before .before .before .any-open .ensures) refl (e .before .either .ensures) ∙ e .if2 .left)
+    (allowed (a .books) noMatch (Takes (a .n)) price (same-or (e .before .before .before .any-open .ensures) refl (e .before .either .ensures) ∙ e .if2 .left)
     (sym (f .before .passes .ensures) ∙ f .if3 .left))
 
 pub take-out-spec : {M : Type 1} → statement M

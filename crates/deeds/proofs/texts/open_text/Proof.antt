@@ -3,6 +3,7 @@ use native.Mathlib.Omega.{arith}
 use Rattle.rules.proofs.Reasoning.{same-or, few-texts}
 use Rattle.deeds.proofs.Judging.{barred, allowed}
 use Rattle.rules.specs.declared.views.View.the-variants.{OpensText}
+use Rattle.sheet.specs.Sheet.{noMatch}
 use borrow.Author.Needs.{needs}
 use Rattle.deeds.proofs.texts.open_text.Statement.{statement}
 use Rattle.deeds.proofs.texts.open_text.Tie as tie
@@ -11,7 +12,7 @@ returns : tie.Need-returns
 returns c =
     let k = c .before .before in
     let b = k .before .before .before .before .args .books in
-    c .refuse .ensures ∙ barred b OpensText refl (same-or (k .before .before .any-open .ensures) (k .before .are-many .ensures) (k .either .ensures) ∙ c .before .if1 .taken)
+    c .refuse .ensures ∙ barred b noMatch OpensText refl (same-or (k .before .before .any-open .ensures) (k .before .are-many .ensures) (k .either .ensures) ∙ c .before .if1 .taken)
 
 add-t9 : tie.Need-add-t9
 add-t9 c =
@@ -26,7 +27,7 @@ returns-2 c =
     let k = i .before in
     let b = k .before .before .before .before .args .books in
     rw (c .finish .ensures, c .before .with-counters .ensures, c .before .before .with-receipt .ensures)
-    (allowed b OpensText refl (same-or (k .before .before .any-open .ensures) (k .before .are-many .ensures) (k .either .ensures) ∙ i .if1 .left) refl)
+    (allowed b noMatch OpensText refl (same-or (k .before .before .any-open .ensures) (k .before .are-many .ensures) (k .either .ensures) ∙ i .if1 .left) refl)
 
 pub open-text-spec : {M : Type 1} → statement M
 open-text-spec =
