@@ -23,10 +23,10 @@ use Rattle.line.specs.declared.Call.{Call}
 use Rattle.line.specs.declared.Call.the-variants.{Quiet, Nak, Again, Order}
 use Rattle.store.specs.Store.{Store}
 use Rattle.carrying.specs.Carrying.{deedFor, answerTo, carry}
-use Rattle.device.specs.Device as device
-use Rattle.device.specs.Hearing.{PartHeard, oneMore, hearing, afterPart}
-use Rattle.device.proofs.Parts.{state-back, place-kept}
-use Rattle.device.proofs.Working.{front-stands, again-few}
+use Rattle.machine.specs.Device as device
+use Rattle.machine.specs.Hearing.{PartHeard, oneMore, hearing, afterPart}
+use Rattle.machine.proofs.Parts.{state-back, place-kept}
+use Rattle.machine.proofs.Working.{front-stands, again-few}
 use Rattle.till.specs.Turns as till
 use Rattle.promises.specs.AtDevice.{FromDevice, tells, row-7}
 use Rattle.promises.specs.Demand1.{Bench, atDevice, fromDevice, ByTheTable, at-device}

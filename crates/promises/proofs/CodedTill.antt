@@ -13,7 +13,7 @@ use Rattle.reader.specs.Reading.{Place, outside, inside, read}
 use Rattle.reader.proofs.Holding.{Underway, underway-few}
 use Rattle.reader.specs.Fields.{readerOf}
 use Rattle.reader.proofs.Running.{kept-length}
-use Rattle.device.proofs.Working.{front-stands}
+use Rattle.machine.proofs.Working.{front-stands}
 use Rattle.till.specs.Turns as till
 use Rattle.till.specs.Fields as fields
 use Rattle.attempts.specs.Promises.{Bytes}

@@ -19,7 +19,7 @@ use Rattle.history.proofs.Reaching.{fresh-reached, reached-stays}
 use Rattle.line.specs.Turns as line
 use Rattle.carrying.specs.Carrying.{deedFor, carry}
 use Rattle.store.specs.Store.{Store}
-use Rattle.device.specs.Device.{Lent, enough, lentTurn}
+use Rattle.machine.specs.Device.{Lent, enough, lentTurn}
 use Rattle.till.specs.Turns as till
 use Rattle.till.specs.declared.Word.the-variants.{Unfinished, TooShort, NotSent}
 use Rattle.till.proofs.Turning.{failsBy}

@@ -26,7 +26,7 @@ use Rattle.history.proofs.Digits.{digits-fit, rest-and-change-fit}
 use Rattle.history.proofs.Histories.{never-overpaid, agreed-is-told}
 use Rattle.line.specs.Turns.{State, Session}
 use Rattle.carrying.specs.Carrying.{deedFor, answerTo, carry}
-use Rattle.device.specs.Device.{storeOf}
+use Rattle.machine.specs.Device.{storeOf}
 use Rattle.recorder.specs.Recording.{recording}
 use Rattle.till.specs.Turns as turns
 use Rattle.attempts.specs.History.{history, heardBytes, words, behind}

@@ -29,7 +29,7 @@ use Rattle.attempts.specs.History.{LentEvent, seqOf}
 use Rattle.attempts.specs.Handed.{Handed, handedIn, AllInPlace}
 use Rattle.attempts.proofs.Handing.{seqs-differ, frames-are-tries}
 use Rattle.carrying.specs.Carrying.{carry}
-use Rattle.device.specs.Device.{storeOf}
+use Rattle.machine.specs.Device.{storeOf}
 use Rattle.recorder.specs.Recording.{recording, listing, toldIn}
 use Rattle.promises.specs.Coded.{Machines, Fresh, HeardThrough}
 use Rattle.promises.specs.Demand3.{eachArrives, allArrive, eachOneWhole, framesArriving, bytesArriving, takenCommands, overTheLine}

@@ -18,7 +18,7 @@ use Rattle.deeds.specs.declared.Deed.{Deed}
 use Rattle.line.specs.Turns.{was, State, Carried, Turn, repeats, lastAnswer, onEvent, turn}
 use Rattle.carrying.specs.Carrying.{deedFor, carriedAs, carry}
 use Rattle.store.specs.Store.{Store}
-use Rattle.device.specs.Device.{Lent, enough, lentTurn}
+use Rattle.machine.specs.Device.{Lent, enough, lentTurn}
 use Rattle.promises.specs.AtDevice.{FromDevice, reads, NewFrame, NewCommand, ByDevice, row-0-taken, row-0-done, row-1, row-2, row-3, row-4, row-5, row-6, row-7}
 use Rattle.promises.specs.Ends.{ofDevice}
 use Rattle.promises.proofs.Verdicts.{Right, syntax, no-kind, is-read, parsed-right}

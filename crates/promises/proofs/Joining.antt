@@ -27,7 +27,7 @@ use Rattle.deeds.specs.Deeds.{carriedOut}
 use Rattle.deeds.specs.declared.Deed.{Deed}
 use Rattle.line.specs.Turns.{was, State, Turn, Session, repeats, onEvent, turn, session}
 use Rattle.store.specs.Store.{Store}
-use Rattle.device.specs.Device.{enough}
+use Rattle.machine.specs.Device.{enough}
 use Rattle.carrying.specs.Carrying.{deedFor, answerTo, carry}
 use Rattle.history.specs.Agrees.{Agrees}
 use Rattle.history.specs.Entries.{Entry, entryOf}

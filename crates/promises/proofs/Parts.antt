@@ -4,7 +4,7 @@ use mathlib.Core.Bool.{Bool, true, false, cond, false≢true}
 use mathlib.Core.List.{List, [], _∷_}
 use Prim.Native.Nat.{ℕ, _+_}
 use Rattle.reader.specs.Reading.{Event, nothing, brokenFrame, heard}
-use Rattle.device.specs.Device.{Lent, enough}
+use Rattle.machine.specs.Device.{Lent, enough}
 use Rattle.promises.specs.AtDevice.{FromDevice, tells, reads, moved, ByDevice, row-0-taken, row-7}
 use Rattle.promises.specs.Demand1.{Bench, atDevice, fromDevice, benchAfter, ByTheTable, at-device}
 use Rattle.promises.specs.Ends.{ofDevice}

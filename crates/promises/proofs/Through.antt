@@ -11,10 +11,10 @@ use Rattle.line.specs.declared.Call.the-variants.{Quiet}
 use Rattle.delivery.proofs.Sessions.{session-append}
 use Rattle.carrying.specs.Carrying.{carry}
 use Rattle.store.specs.Store.{Store, freshStore}
-use Rattle.device.specs.Device.{Lent, enough, storeOf, stateOf, notTaken}
-use Rattle.device.specs.Hearing.{PartHeard, hearing, carriedBy}
+use Rattle.machine.specs.Device.{Lent, enough, storeOf, stateOf, notTaken}
+use Rattle.machine.specs.Hearing.{PartHeard, hearing, carriedBy}
 use Rattle.recorder.specs.Recording.{recording}
-use Rattle.device.proofs.Parts.{behind, part-is}
+use Rattle.machine.proofs.Parts.{behind, part-is}
 use Rattle.promises.specs.Coded.{Machines, Fresh, benchOf, hear, partAfter, handedOn, HeardThrough, all-taken, one-call}
 use Rattle.promises.proofs.CodedDevice.{DeviceOk, device-called}
 use Rattle.promises.proofs.Coded.{fresh-device}

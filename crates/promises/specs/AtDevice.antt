@@ -17,7 +17,7 @@ use Rattle.command.specs.Commands.{parsedOf}
 use Rattle.rules.specs.Rules.{three, four, effect, shows}
 use Rattle.line.specs.Turns.{was, State, repeats, lastAnswer}
 use Rattle.store.specs.Store.{Store}
-use Rattle.device.specs.Device.{Lent, enough}
+use Rattle.machine.specs.Device.{Lent, enough}
 
 -- PROTOCOL 1.1, 2.1: what comes from the device for one byte: its reply number, how many bytes are given back and which, what was lent and the device
 -- afterwards

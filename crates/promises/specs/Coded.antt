@@ -7,8 +7,8 @@ use mathlib.Core.List.{List, [], _∷_, _++_}
 use lib.ListN.{length, take, drop}
 use lib.Seq.{sets}
 use Rattle.reader.specs.Reading.{Event, nothing, brokenFrame, heard}
-use Rattle.device.specs.Device as device
-use Rattle.device.specs.Hearing.{PartHeard, afterPart}
+use Rattle.machine.specs.Device as device
+use Rattle.machine.specs.Hearing.{PartHeard, afterPart}
 use Rattle.till.specs.Turns as till
 use Rattle.till.specs.Fields as fields
 use Rattle.till.specs.Words.{numberOf, countOf}

@@ -3,7 +3,7 @@
 use Prim.Native.Nat.{ℕ}
 use mathlib.Core.List.{List, [], _∷_}
 use Rattle.store.specs.Store.{Store, freshStore}
-use Rattle.device.specs.Device.{Lent}
+use Rattle.machine.specs.Device.{Lent}
 use Rattle.line.specs.Turns as line
 use Rattle.till.specs.Turns as till
 use Rattle.promises.specs.AtDevice.{FromDevice, ByDevice}

@@ -12,7 +12,7 @@ use Rattle.books.specs.declared.Books.{Books}
 use Rattle.history.specs.Entries.{Entry}
 use Rattle.line.specs.Turns.{State, Turn, switchedOn}
 use Rattle.store.specs.Store.{Store, freshStore}
-use Rattle.device.specs.Device.{Lent, lentTurn}
+use Rattle.machine.specs.Device.{Lent, lentTurn}
 
 -- PROTOCOL 2.4: a byte that arrives, and what is lent for it
 pub record LentByte : Type 0 where

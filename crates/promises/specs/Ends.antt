@@ -6,7 +6,7 @@ use mathlib.Core.List.{List, [], _∷_}
 use lib.ListN.{length}
 use Rattle.store.specs.Store.{Store}
 use Rattle.line.specs.Turns as line
-use Rattle.device.specs.Device.{Lent, lentTurn}
+use Rattle.machine.specs.Device.{Lent, lentTurn}
 use Rattle.till.specs.Turns as till
 use Rattle.till.specs.Words.{numberOf, countOf}
 use Rattle.till.specs.declared.Word.the-variants.{Unfinished}

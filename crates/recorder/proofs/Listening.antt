@@ -16,11 +16,11 @@ use Rattle.line.specs.declared.Call.{Call}
 use Rattle.line.specs.declared.Call.the-variants.{Order}
 use Rattle.store.specs.Store.{Store}
 use Rattle.carrying.specs.Carrying.{carry}
-use Rattle.device.specs.Device.{Lent, Machine, freshFields, stateOf}
-use Rattle.device.specs.Hearing.{PartHeard, hearing, afterPart, carriedBy}
-use Rattle.device.specs.declared.Device.{Device}
-use Rattle.device.proofs.Working.{take-min, take-all}
-use Rattle.device.proofs.Parts.{behind, Part, part-is, part-long}
+use Rattle.machine.specs.Device.{Lent, Machine, freshFields, stateOf}
+use Rattle.machine.specs.Hearing.{PartHeard, hearing, afterPart, carriedBy}
+use Rattle.machine.specs.declared.Device.{Device}
+use Rattle.machine.proofs.Working.{take-min, take-all}
+use Rattle.machine.proofs.Parts.{behind, Part, part-is, part-long}
 use Rattle.recorder.specs.Recording.{recording, listed, listing, Told, toldIn}
 
 -- bytes appended, as far as there is room

@@ -8,7 +8,7 @@ ghost use mathlib.Core.Path.{_≡_};
 ghost use Prim.Native.Nat.{_+_, _≤_, min};
 ghost use lib.ListN.{length};
 ghost use lib.Seq.{sets};
-ghost use Rattle.device.specs.Hearing.{carriedBy};
+ghost use Rattle.machine.specs.Hearing.{carriedBy};
 ghost use Rattle.recorder.specs.Recording.{recording, listing, toldIn};
 
 // A recording heard: the books at the end, and how many bytes stand in the two lent buffers.

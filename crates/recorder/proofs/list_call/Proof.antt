@@ -1,6 +1,6 @@
 use mathlib.Core.Path.{ap}
 use denote.Ref.{now}
-use Rattle.device.specs.Hearing.{carriedBy}
+use Rattle.machine.specs.Hearing.{carriedBy}
 use Rattle.recorder.specs.Recording.{listing}
 use Rattle.recorder.proofs.Listening.{list-none, list-order}
 use borrow.Author.Needs.{needs}

@@ -1,6 +1,6 @@
 -- The device: its fields and arrays as a state, and one byte with what is lent for it.
 use Prim.Native.Nat.{ℕ}
-use mathlib.Core.Bool.{Bool, cond}
+use mathlib.Core.Bool.{Bool, cond, _&&_}
 use mathlib.Core.List.{List, [], _∷_}
 use lib.Dec.{leb}
 use lib.ListN.{length}
@@ -12,24 +12,27 @@ use Rattle.line.specs.Turns.{Before, State, Turn, turn, lastAnswer}
 use Rattle.line.specs.Calls.{beforeOf}
 use Rattle.line.specs.declared.Previous.{Previous}
 use Rattle.line.specs.declared.Previous.the-variants.{Nothing, Frame}
+use Rattle.sheet.specs.declared.Line.{Line}
 use Rattle.books.specs.Books.{freshBooks}
 use Rattle.store.specs.Store.{Store}
 use Rattle.carrying.specs.Carrying.{carry}
-use Rattle.device.specs.declared.Device.{Device}
+use Rattle.machine.specs.declared.Device.{Device}
 
--- PROTOCOL 2.4: what is lent with each byte, whatever it holds: the buffer for what is given back
+-- PROTOCOL 2.4: what is lent with each byte, whatever it holds: the buffer for what is given back, and how many lines of the sheet
 pub record Lent : Type 0 where
   pub buffer : List ℕ
+  pub lines : ℕ
 
 -- PROTOCOL 2.4: all of it is long enough; if not it is 7, before anything else is looked at
 abbrev pub enough : Lent → Bool
-enough lent = leb 217 (length (lent .buffer))
+enough lent = leb 217 (length (lent .buffer)) && leb 512 (lent .lines)
 
--- PROTOCOL 8.3: a device: its fields, and its own two arrays, the bytes since 01h and the last answer
+-- PROTOCOL 8.3, 8.8: a device: its fields, its own two arrays, the bytes since 01h and the last answer, and the sheet, as it left it
 pub record Machine : Type 0 where
   pub device : Device
   pub frame : List ℕ
   pub last : List ℕ
+  pub sheet : List Line
 
 -- PROTOCOL 8.4: the fields of a fresh device
 abbrev pub freshFields : Device
@@ -37,7 +40,7 @@ freshFields = record { line = record { reader = readerOf outside; previous = Not
 
 -- PROTOCOL 8.3: what commands work on, as the device's fields and arrays say it
 abbrev pub storeOf : Machine → Store
-storeOf m = record { books = m .device .books }
+storeOf m = record { books = m .device .books; sheet = m .sheet }
 
 abbrev pub stateOf : Machine → State Store
 stateOf m =
@@ -72,11 +75,17 @@ machineAfter m t =
       };
       frame = keptIn (m .frame) (t .state .place);
       last = lastAfter (m .last) (t .carried) (t .state .before);
+      sheet = t .state .store .sheet;
     }
 
 abbrev pub taken : Machine → Lent → Turn Store → After
 taken m lent t =
-    record { machine = machineAfter m t; lent = record { buffer = sets (lent .buffer) 0 (t .gives) }; number = t .number; count = length (t .gives) }
+    record {
+      machine = machineAfter m t;
+      lent = record { buffer = sets (lent .buffer) 0 (t .gives); lines = lent .lines };
+      number = t .number;
+      count = length (t .gives);
+    }
 
 -- PROTOCOL 2.4: 7, the byte is not taken, and everything stays
 abbrev pub notTaken : Machine → Lent → After

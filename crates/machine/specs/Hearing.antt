@@ -8,10 +8,11 @@ use Rattle.line.specs.Turns.{turn}
 use Rattle.line.specs.Calls.{isQuiet, calledOf}
 use Rattle.line.specs.declared.Call.{Call}
 use Rattle.line.specs.declared.Call.the-variants.{Quiet, Nak, Again, Order}
+use Rattle.sheet.specs.declared.Line.{Line}
 use Rattle.carrying.specs.Carrying.{carry}
-use Rattle.device.specs.Device.{Lent, enough, Machine, After, stateOf, taken, notTaken}
-use Rattle.device.specs.declared.Given.{Given}
-use Rattle.device.specs.declared.Hearing.{Hearing}
+use Rattle.machine.specs.Device.{Lent, enough, Machine, After, stateOf, taken, notTaken}
+use Rattle.machine.specs.declared.Given.{Given}
+use Rattle.machine.specs.declared.Hearing.{Hearing}
 
 -- what a call brought: the device and what was lent behind it, what the last byte taken asked for, and how many bytes were taken
 pub record PartHeard : Type 0 where
@@ -19,13 +20,19 @@ pub record PartHeard : Type 0 where
   pub call : Call
   pub taken : ℕ
 
--- the same as the code has it: what it hands back, and the arrays and the buffer behind the call
-abbrev pub afterOf : Given → (frame last buffer : List ℕ) → After
-afterOf g frame last buffer =
-    record { machine = record { device = g .device; frame = frame; last = last }; lent = record { buffer = buffer }; number = g .number; count = g .count }
+-- the same as the code has it: what it hands back, and the arrays, the buffer and the sheet behind the call
+abbrev pub afterOf : Given → (frame last buffer : List ℕ) → (sheet : List Line) → (lines : ℕ) → After
+afterOf g frame last buffer sheet lines =
+    record {
+      machine = record { device = g .device; frame = frame; last = last; sheet = sheet };
+      lent = record { buffer = buffer; lines = lines };
+      number = g .number;
+      count = g .count;
+    }
 
-abbrev pub partOf : Hearing → (frame last buffer : List ℕ) → PartHeard
-partOf h frame last buffer = record { after = afterOf (h .given) frame last buffer; call = h .call; taken = h .taken }
+abbrev pub partOf : Hearing → (frame last buffer : List ℕ) → (sheet : List Line) → (lines : ℕ) → PartHeard
+partOf h frame last buffer sheet lines =
+    record { after = afterOf (h .given) frame last buffer sheet lines; call = h .call; taken = h .taken }
 
 abbrev pub oneMore : PartHeard → PartHeard
 oneMore h = record { after = h .after; call = h .call; taken = h .taken + 1 }

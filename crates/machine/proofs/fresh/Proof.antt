@@ -3,8 +3,8 @@ use Rattle.reader.specs.Reading.{outside}
 use Rattle.reader.specs.Fields.{readerOf}
 use Rattle.line.specs.declared.Previous.the-variants.{Nothing}
 use borrow.Author.Needs.{needs}
-use Rattle.device.proofs.fresh.Statement.{statement}
-use Rattle.device.proofs.fresh.Tie as tie
+use Rattle.machine.proofs.fresh.Statement.{statement}
+use Rattle.machine.proofs.fresh.Tie as tie
 
 returns : tie.Need-returns
 returns c = ap (λ z. record { line = z; books = c .fresh2 .result }) (c .before .fresh .ensures) ∙ ap (λ z. record { line = record { reader = readerOf outside; previous = Nothing }; books = z }) (c .fresh2 .ensures)

@@ -4,8 +4,7 @@ use mathlib.Core.Path.{_≡_}
 use mathlib.Core.List.{List}
 use lib.ListN.{length}
 
--- the arrays and the buffer, at the lengths they are lent
-pub record AtLength (frame last buffer : List ℕ) : Type 0 where
-  pub frames : length frame ≡ 256
+-- the last answer and the buffer, at the lengths they are lent
+pub record AtLength (last buffer : List ℕ) : Type 0 where
   pub lasts : length last ≡ 217
   pub room : 217 ≤ length buffer

@@ -1,4 +1,5 @@
 pub mod Device
 pub mod Answering
 pub mod Hearing
+pub mod Halves
 pub mod Private

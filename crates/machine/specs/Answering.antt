@@ -11,12 +11,17 @@ use Rattle.line.specs.declared.Call.the-variants.{Quiet, Nak, Again, Order}
 use Rattle.line.specs.declared.Previous.the-variants.{Frame}
 use Rattle.store.specs.Store.{Store}
 use Rattle.carrying.specs.Carrying.{carry}
-use Rattle.device.specs.Device.{Lent, Machine, storeOf, After}
+use Rattle.machine.specs.Device.{Lent, Machine, storeOf, After}
 
 -- PROTOCOL 2.5: the bytes given back for a call stand at the front of the lent buffer; with them its number
 abbrev pub gives : Call → List ℕ → Machine → Lent → After
 gives call bytes m lent =
-    record { machine = m; lent = record { buffer = sets (lent .buffer) 0 bytes }; number = callNumber call 0; count = length bytes }
+    record {
+      machine = m;
+      lent = record { buffer = sets (lent .buffer) 0 bytes; lines = lent .lines };
+      number = callNumber call 0;
+      count = length bytes;
+    }
 
 -- PROTOCOL 1.11: a command carried out is the frame before from now on, with its answer
 abbrev pub orders : ℕ → ℕ → Carried Store → Machine → Lent → After
@@ -29,8 +34,9 @@ orders seq code k m lent =
         };
         frame = m .frame;
         last = sets (m .last) 0 (k .answer);
+        sheet = k .store .sheet;
       };
-      lent = record { buffer = sets (lent .buffer) 0 (k .lead ++ k .answer) };
+      lent = record { buffer = sets (lent .buffer) 0 (k .lead ++ k .answer); lines = lent .lines };
       number = callNumber (Order seq code 0) (k .number);
       count = length (k .lead ++ k .answer);
     }

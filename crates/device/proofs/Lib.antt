@@ -1,3 +1,0 @@
-pub mod Working
-pub mod Turning
-pub mod Parts
