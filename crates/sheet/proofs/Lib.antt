@@ -3,3 +3,4 @@ pub mod Again
 pub mod Shared
 pub mod Lines
 pub mod Newest
+pub mod Noting
