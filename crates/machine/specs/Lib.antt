@@ -2,4 +2,5 @@ pub mod Device
 pub mod Answering
 pub mod Hearing
 pub mod Halves
+pub mod Together
 pub mod Private

@@ -111,13 +111,14 @@ pub fn begin(
     let asked = ask(books, call, &*frame);
     let parsed = asked.parsed;
     let search = asked.search;
+    let wanted = search.wanted;
     Begun {
         device: Device { line: next, books },
         call,
         taken: listened.taken,
         parsed,
         lines: search.lines,
-        wanted: search.wanted,
+        wanted,
         enough: true,
     }
 }

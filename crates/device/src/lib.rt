@@ -1,0 +1,34 @@
+// The device: bytes in; nothing, NAK or a whole answer out (PROTOCOL 1.1).
+use machine::Device;
+use machine::Hearing;
+use reader::FRAME_ROOM;
+use sheet::Line;
+use wire::ANSWER_ROOM;
+ghost use mathlib.Core.Path.{_≡_};
+ghost use Prim.Native.Nat.{_≤_};
+ghost use lib.ListN.{length, drop};
+ghost use Rattle.machine.specs.Hearing.{partOf};
+ghost use Rattle.machine.specs.Together.{together};
+
+// Bytes of a lent part from a place on, up to and including the first that asks for something; what it gives back stands in `buf`. The
+// bytes since 01h stand in `frame`, the last answer in `last`, the lines of the newest fiscal receipt in `sheet`: all three are the
+// device's own, as it left them. Only here is the sheet touched: asked once, told once.
+pub fn hear(
+    device: Device,
+    frame: &mut [u8; FRAME_ROOM],
+    last: &mut [u8; ANSWER_ROOM],
+    buf: &mut [u8],
+    sheet: &mut [Line],
+    bytes: &[u8],
+    from: usize,
+) -> Hearing
+    ensures { λ r. ⌜ (partOf r (now (frame .exit)) (now (last .exit)) (now (buf .exit)) (now (sheet .exit)) (length (now (sheet .entry))) ≡ together device (now (frame .entry)) (now (last .entry)) (now (buf .entry)) (now (sheet .entry)) (drop from (now (bytes .entry)))) × (r .given .count ≤ 217) ⌝ }
+{
+    let lines = sheet::length_of(sheet);
+    let begun = machine::begin(device, frame, buf.len(), lines, bytes, from);
+    let at = sheet::find(sheet, begun.lines, begun.wanted);
+    let found = sheet::get(sheet, at);
+    let ended = machine::finish(begun, at, found, last, buf);
+    sheet::tell(sheet, ended.writes);
+    ended.hearing
+}
