@@ -163,7 +163,13 @@ fn ask_nothing() -> Asked
 }
 
 // The second half: what was asked for is given. `found` is the line of the sheet at which the search ended, `at` its place.
-pub fn finish(begun: Begun, at: usize, found: Line, last: &mut [u8; ANSWER_ROOM], buf: &mut [u8]) -> Ended
+pub fn finish(
+    begun: Begun,
+    at: usize,
+    found: Line,
+    last: &mut [u8; ANSWER_ROOM],
+    buf: &mut [u8],
+) -> Ended
     ensures { λ r. ⌜ record { ended = r; last = now (last .exit); buffer = now (buf .exit) } ≡ ending begun at found (now (last .entry)) (now (buf .entry)) ⌝ }
     ensures { λ r. ⌜ r .hearing .given .count ≤ 217 ⌝ }
 {
@@ -215,7 +221,11 @@ fn give(begun: Begun, at: usize, found: Line, last: &mut [u8], buf: &mut [u8]) -
             let count = again(previous, &*last, buf);
             end_with(begun, 6, count, at, found)
         }
-        Call::Order { seq, code, count: _ } => order(begun, seq, code, at, found, last, buf),
+        Call::Order {
+            seq,
+            code,
+            count: _,
+        } => order(begun, seq, code, at, found, last, buf),
     }
 }
 

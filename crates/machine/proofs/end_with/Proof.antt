@@ -1,0 +1,14 @@
+use mathlib.Core.Path.{ap}
+use Rattle.sheet.specs.declared.Writes.{Writes}
+use Rattle.machine.specs.Halves.{endedBy}
+use borrow.Author.Needs.{needs}
+use Rattle.machine.proofs.end_with.Statement.{statement}
+use Rattle.machine.proofs.end_with.Tie as tie
+
+returns : tie.Need-returns
+returns c =
+    let a = c .before .before .args in
+    ap (endedBy (a .begun) (record { device = a .begun .device; number = a .number; count = a .count })) (c .writes-of .ensures)
+
+pub end-with-spec : {M : Type 1} → statement M
+end-with-spec = tie.close (tie.spec (λ c κs. search needs) returns)
