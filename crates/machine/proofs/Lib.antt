@@ -1,2 +1,5 @@
 pub mod Working
 pub mod Halving
+pub mod Turning
+pub mod Parts
+pub mod Joining
