@@ -3,3 +3,4 @@ pub mod Halving
 pub mod Turning
 pub mod Parts
 pub mod Joining
+pub mod Taking

@@ -1,16 +1,17 @@
--- PROTOCOL 1.1: a recording, all the bytes that a fresh device heard; it is always lent its 217 bytes.
+-- PROTOCOL 1.1: a recording, all the bytes that a fresh device heard; it is always lent its 217 bytes, and the same sheet of 512 lines, whatever that held.
 use Prim.Native.Nat.{ℕ, _+_, _%_, min}
 use mathlib.Core.List.{List, [], _∷_, _++_}
 use lib.ListN.{length}
 use lib.Seq.{sets}
 use Rattle.wire.specs.Frame.{Message}
 use Rattle.line.specs.Turns.{Session, session, switchedOn}
+use Rattle.sheet.specs.declared.Line.{Line}
 use Rattle.store.specs.Store.{Store, freshStore}
 use Rattle.carrying.specs.Carrying.{carry}
 use Rattle.recorder.specs.declared.Recorded.{Recorded}
 
-abbrev pub recording : List ℕ → Session Store
-recording bytes = session carry (switchedOn freshStore) bytes
+abbrev pub recording : List Line → List ℕ → Session Store
+recording sheet bytes = session carry (switchedOn (freshStore sheet)) bytes
 
 -- DECISIONS 32: a command in the list of those carried out: SEQ, CMD, the number of its data bytes, the data. PROTOCOL 1.2: there are at most 200, so that one
 -- byte holds the number.

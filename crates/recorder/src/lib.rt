@@ -1,15 +1,27 @@
-// A recording: all the bytes that a fresh device heard (PROTOCOL 1.1).
+// A recording: all the bytes that a fresh device heard (PROTOCOL 1.1); and any part of the line's bytes, heard to its end.
+use basics::least_size;
 use books::Books;
 use line::Call;
 use line::MOST_HELD;
+use machine::Device;
+use machine::Hearing;
 use reader::FRAME_ROOM;
-use wire::ANSWER_ROOM;
 ghost use mathlib.Core.Path.{_≡_};
 ghost use Prim.Native.Nat.{_+_, _≤_, min};
 ghost use lib.ListN.{length};
 ghost use lib.Seq.{sets};
 ghost use Rattle.machine.specs.Hearing.{carriedBy};
-ghost use Rattle.recorder.specs.Recording.{recording, listing, toldIn};
+ghost use Rattle.recorder.specs.Recording.{listing};
+ghost use Rattle.recorder.specs.Running.{placeAfter, notedDown, startOf};
+
+// A part heard so far: the device, the place of the next byte, how many bytes stand in the two lent buffers, and whether there is more.
+pub struct Run {
+    pub device: Device,
+    pub place: usize,
+    pub given: usize,
+    pub listed: usize,
+    pub more: bool,
+}
 
 // A recording heard: the books at the end, and how many bytes stand in the two lent buffers.
 pub struct Recorded {
@@ -18,36 +30,60 @@ pub struct Recorded {
     pub listed: usize,
 }
 
-// A recorded session, heard by a fresh device that is always lent its 217 bytes. What it gives back goes into `out`, the commands
-// carried out into `orders`, as far as each reaches.
-pub fn hear_all(bytes: &[u8], out: &mut [u8], orders: &mut [u8]) -> Recorded
-    ensures { λ r. ⌜ record { recorded = r; out = now (out .exit); orders = now (orders .exit) } ≡ toldIn (now (out .entry)) (now (orders .entry)) (recording (now (bytes .entry))) ⌝ }
+// The first byte of a part comes next.
+pub fn start(device: Device, total: usize) -> Run
+    ensures { λ r. ⌜ r ≡ startOf device total ⌝ }
 {
-    let mut frame = [0u8; FRAME_ROOM];
-    let mut last = [0u8; ANSWER_ROOM];
-    let mut buf = [0u8; ANSWER_ROOM];
-    let mut device = device::fresh();
-    let mut written: usize = 0;
-    let mut listed: usize = 0;
-    let mut i = 0;
-    while i < bytes.len() {
-        let part = &bytes[i..bytes.len()];
-        let heard = device::hear(device, &mut frame, &mut last, &mut buf, part);
-        let given = heard.given;
-        let call = heard.call;
-        let next = given.device;
-        let count = given.count;
-        listed = list_call(call, &frame, orders, listed);
-        written = append(out, written, &buf[0..count]);
-        device = next;
-        i += heard.taken;
+    Run {
+        device,
+        place: 0,
+        given: 0,
+        listed: 0,
+        more: 0 < total,
     }
-    let books = device.books;
-    Recorded {
-        books,
+}
+
+// What one call brought: its bytes behind those that stand already, its command behind the others, and the next byte's place.
+fn note_down(
+    run: Run,
+    heard: Hearing,
+    frame: &[u8; FRAME_ROOM],
+    buf: &[u8],
+    total: usize,
+    out: &mut [u8],
+    orders: &mut [u8],
+) -> Run
+    ensures { λ r. ⌜ record { run = r; out = now (out .exit); orders = now (orders .exit) } ≡ notedDown run heard (now (frame .entry)) (now (buf .entry)) total (now (out .entry)) (now (orders .entry)) ⌝ }
+{
+    let given = heard.given;
+    let call = heard.call;
+    let device = given.device;
+    let count = least_size(given.count, buf.len());
+    let listed = list_call(call, frame, orders, run.listed);
+    let written = append(out, run.given, &buf[0..count]);
+    let place = place_after(run.place, heard.taken, total);
+    Run {
+        device,
+        place,
         given: written,
         listed,
+        more: (0 < heard.taken) & (place < total),
     }
+}
+
+fn place_after(place: usize, taken: usize, total: usize) -> usize
+    ensures { λ r. ⌜ r ≡ placeAfter place taken total ⌝ }
+{
+    if total < place {
+        if taken == 0 {
+            return place;
+        }
+        return total;
+    }
+    if taken <= total - place {
+        return place + taken;
+    }
+    total
 }
 
 // The bytes behind those that stand already; past the end nothing is written.
@@ -69,16 +105,15 @@ fn append(out: &mut [u8], at: usize, src: &[u8]) -> usize
 // A command carried out, listed behind the others.
 fn list_call(call: Call, frame: &[u8], orders: &mut [u8], at: usize) -> usize
     requires { ⌜ length (now frame) ≡ 256 ⌝ }
-    requires { ⌜ at ≤ length (now orders) ⌝ }
     ensures { λ r. ⌜ r ≡ min (at + length (listing (carriedBy call (now (frame .entry))))) (length (now (orders .entry))) ⌝ }
     ensures { λ r. ⌜ now (orders .exit) ≡ sets (now (orders .entry)) at (listing (carriedBy call (now (frame .entry)))) ⌝ }
 {
     match call {
-        Call::Quiet => at,
-        Call::Nak => at,
-        Call::Again => at,
+        Call::Quiet => least_size(at, orders.len()),
+        Call::Nak => least_size(at, orders.len()),
+        Call::Again => least_size(at, orders.len()),
         Call::Order { seq, code, count } => {
-            let n = basics::least_size(count, MOST_HELD);
+            let n = least_size(count, MOST_HELD);
             let end = n + 3;
             let head = [seq, code, (n % 256) as u8];
             let behind = append(orders, at, &head);
