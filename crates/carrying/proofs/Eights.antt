@@ -12,7 +12,8 @@ use Rattle.kinds.specs.declared.Mode.{Mode}
 use Rattle.kinds.specs.declared.Parsed.{Parsed}
 use Rattle.kinds.specs.declared.Parsed.the-variants.{Read, Syntax, Unknown}
 use Rattle.command.specs.Commands.{parsedOf}
-use Rattle.sheet.specs.Searches.{matchOf}
+use Rattle.sheet.specs.Searches.{placeOf, matchOf}
+use Rattle.sheet.proofs.Noting.{noted-length}
 use Rattle.sheet.specs.declared.Match.{Match}
 use Rattle.receipt.specs.Receipts.{groupAfter}
 use Rattle.books.specs.Books.{withReceipt, withDrawer, withRegisters}
@@ -78,6 +79,13 @@ eights-stay b m Unknown h = h
 
 pub carry-keeps : (s : Store) (m : Message) → Eights (s .books) → Eights (carry s m .store .books)
 carry-keeps s m h = let p = parsedOf (m .code) (m .content) in eights-stay (s .books) (matchOf (s .sheet) (searchIn (s .books) p)) p h
+
+-- and the sheet its length
+pub carry-lines : (s : Store) (m : Message) → length (carry s m .store .sheet) ≡ length (s .sheet)
+carry-lines s m =
+    let p = parsedOf (m .code) (m .content) in
+    let q = searchIn (s .books) p in
+    noted-length (deedFor (s .books) (matchOf (s .sheet) q) p .note) (s .sheet) (placeOf (s .sheet) q) (s .books .receipt .lines)
 
 pub answer-few : (s : Store) (m : Message) → Eights (s .books) → length (carry s m .answer) ≤ 217
 answer-few s m h =

@@ -119,7 +119,7 @@ module _ (d : Device) (last buffer : List ℕ) (sheet : List Line) where
         let i = searchedAt f sheet in
         let l = getD sheet i blank in
         let so : ending (f .begun) i l last buffer ≡ endingAs (x .call) (f .begun) i l last buffer
-              = ap (λ z. cond z (endingAs (x .call) (f .begun) i l last buffer) (endedWith (f .begun) 7 i l last buffer [])) e in
+        = ap (λ z. cond z (endingAs (x .call) (f .begun) i l last buffer) (endedWith (f .begun) 7 i l last buffer [])) e in
         ap (λ z. putTogether f z sheet) so
         ∙ by-call room (x .line) (x .taken) kept (x .call) (subst (λ (z : SecondHalf). z .ended .hearing .given .count ≤ 217) so few)
         ∙ two-halves (d .books) last sheet lent bytes (d .line) frame

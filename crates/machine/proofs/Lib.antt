@@ -4,3 +4,4 @@ pub mod Turning
 pub mod Parts
 pub mod Joining
 pub mod Taking
+pub mod Fitting

@@ -1,1 +1,3 @@
 pub mod Listening
+pub mod Calling
+pub mod Through

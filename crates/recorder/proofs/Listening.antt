@@ -86,7 +86,7 @@ listing-append : (ms ns : List Message) → listing (ms ++ ns) ≡ listing ms ++
 listing-append [] ns = refl
 listing-append (m ∷ ms) ns = ap (λ z. listed m ++ z) (listing-append ms ns) ∙ sym (append-assoc (listed m) (listing ms) (listing ns))
 
-onto-behind : (out orders : List ℕ) (given listed : ℕ) (gives : List ℕ) (carried : List Message) (r : Session Store)
+pub onto-behind : (out orders : List ℕ) (given listed : ℕ) (gives : List ℕ) (carried : List Message) (r : Session Store)
     → onto out orders given listed (behind gives carried r)
     ≡ onto (sets out given gives) (sets orders listed (listing carried)) (min (given + length gives) (length out)) (min (listed + length (listing carried)) (length orders)) r
 onto-behind out orders given listed gives carried r =
@@ -117,4 +117,3 @@ onto-behind out orders given listed gives carried r =
       out = sets (sets out given gives) (min (given + length gives) (length out)) (r .gives);
       orders = z;
     }) (sym (joined orders ms ns listed))
-
