@@ -1,7 +1,7 @@
--- Demand 1 at the device. The table of PROTOCOL 2.1, row by row: what each row means, what is given back, what stays, and every byte of the lent buffer.
+-- Demand 1 at the device. The table of PROTOCOL 2.1, row by row: what each row means, what is given back, what stays, and every byte and record that is lent.
 use Prim.Native.Nat.{ℕ}
 use mathlib.Core.Path.{_≡_}
-use mathlib.Core.Bool.{true, false}
+use mathlib.Core.Bool.{Bool, true, false}
 use mathlib.Core.List.{List, [], _∷_}
 use lib.ListN.{length}
 use lib.Seq.{sets}
@@ -14,9 +14,11 @@ use Rattle.answers.specs.Status.{receipts, memories}
 use Rattle.kinds.specs.declared.Command as kinds
 use Rattle.kinds.specs.declared.Parsed.the-variants as parsed
 use Rattle.command.specs.Commands.{parsedOf}
-use Rattle.rules.specs.Rules.{three, four, effect, shows}
 use Rattle.line.specs.Turns.{was, State, repeats, lastAnswer}
+use Rattle.sheet.specs.Notes.{noted}
+use Rattle.rules.specs.Views.{viewOf}
 use Rattle.store.specs.Store.{Store}
+use Rattle.store.specs.Commands.{placeFor, ruleFor}
 use Rattle.machine.specs.Device.{Lent, enough}
 
 -- PROTOCOL 1.1, 2.1: what comes from the device for one byte: its reply number, how many bytes are given back and which, what was lent and the device
@@ -31,7 +33,13 @@ pub record FromDevice : Type 0 where
 -- PROTOCOL 2.5: what is given back stands at the front of the lent buffer, and the bytes behind it stay as they were
 abbrev pub tells : ℕ → List ℕ → Lent → State Store → FromDevice
 tells number bytes lent after =
-    record { number = number; count = length bytes; bytes = bytes; lent = record { buffer = sets (lent .buffer) 0 bytes }; device = after }
+    record {
+      number = number;
+      count = length bytes;
+      bytes = bytes;
+      lent = record { buffer = sets (lent .buffer) 0 bytes; lines = lent .lines };
+      device = after;
+    }
 
 -- PROTOCOL 1.7: what the byte is to the frame that is being read, and where reading stands behind it
 abbrev pub reads : State Store → ℕ → Read
@@ -63,21 +71,30 @@ answerWith m content first second b =
     frame ToTill
     (answerOf (m .seq) (m .code) content (first ∷ second ∷ receipts (b .opened) ∷ 0x80 ∷ memories b ∷ 0x9A ∷ []))
 
--- PROTOCOL 5.1: of a command done: what it shows, after its effect
-abbrev pub doneWith : Books → Message → kinds.Command → List ℕ
-doneWith b m c = answerWith m (contentOf (shows b c) (b .day) (effect b c)) 0x80 0x80 (effect b c)
+-- PROTOCOL chapter 5: a reason for 3, and one for 4
+abbrev pub three : Store → kinds.Command → Bool
+three s c = ruleFor s c .three
 
--- PROTOCOL chapter 5: what it leaves
+abbrev pub four : Store → kinds.Command → Bool
+four s c = ruleFor s c .four
+
+-- PROTOCOL 5.1: of a command done: what it shows, after its effect
+abbrev pub doneWith : Store → Message → kinds.Command → List ℕ
+doneWith s m c = let r = ruleFor s c in answerWith m (contentOf (r .shows) (s .books .day) (r .after)) 0x80 0x80 (r .after)
+
+-- PROTOCOL chapter 5: what it leaves, in the books and in the sheet
 abbrev pub leavesOf : Store → kinds.Command → Store
-leavesOf s c = record { books = effect (s .books) c }
+leavesOf s c =
+    let r = ruleFor s c in
+    record { books = r .after; sheet = noted (s .sheet) (placeFor s (viewOf c)) (s .books .receipt .lines) (r .note) }
 
 -- PROTOCOL 2.1, at the device
 pub data ByDevice (s : State Store) (lent : Lent) (byte : ℕ) : FromDevice → Type 0 where
   -- 0, a byte taken: nothing is given back; all but where reading stands is as it was
   row-0-taken : enough lent ≡ true → reads s byte .event ≡ nothing → ByDevice s lent byte (tells 0 [] lent (moved s byte))
   -- 0, done: no reason for 3 and none for 4; an answer, with verdict 80 80 (3.2); what changes is the command's effect
-  row-0-done : (m : Message) (c : kinds.Command) → NewCommand s lent byte m c → three (s .store .books) c ≡ false → four (s .store .books) c ≡ false
-      → ByDevice s lent byte (tells 0 (doneWith (s .store .books) m c) lent (remembers s byte m (doneWith (s .store .books) m c) (leavesOf (s .store) c)))
+  row-0-done : (m : Message) (c : kinds.Command) → NewCommand s lent byte m c → three (s .store) c ≡ false → four (s .store) c ≡ false
+      → ByDevice s lent byte (tells 0 (doneWith (s .store) m c) lent (remembers s byte m (doneWith (s .store) m c) (leavesOf (s .store) c)))
   -- 1, syntax: an answer with no data and verdict A1 80 (3.2); the books stay, counters and closings too (2.3)
   row-1 : (m : Message) → NewFrame s lent byte m → parsedOf (m .code) (m .content) ≡ parsed.Syntax
       → ByDevice s lent byte (tells 1 (answerWith m [] 0xA1 0x80 (s .store .books)) lent (remembers s byte m (answerWith m [] 0xA1 0x80 (s .store .books)) (s .store)))
@@ -85,15 +102,15 @@ pub data ByDevice (s : State Store) (lent : Lent) (byte : ℕ) : FromDevice → 
   row-2 : (m : Message) → NewFrame s lent byte m → parsedOf (m .code) (m .content) ≡ parsed.Unknown
       → ByDevice s lent byte (tells 2 (answerWith m [] 0xA2 0x80 (s .store .books)) lent (remembers s byte m (answerWith m [] 0xA2 0x80 (s .store .books)) (s .store)))
   -- 3, not permitted now: a reason for 3; the same with verdict A0 82
-  row-3 : (m : Message) (c : kinds.Command) → NewCommand s lent byte m c → three (s .store .books) c ≡ true
+  row-3 : (m : Message) (c : kinds.Command) → NewCommand s lent byte m c → three (s .store) c ≡ true
       → ByDevice s lent byte (tells 3 (answerWith m [] 0xA0 0x82 (s .store .books)) lent (remembers s byte m (answerWith m [] 0xA0 0x82 (s .store .books)) (s .store)))
   -- 4, overflow: no reason for 3 and one for 4; the same with verdict A0 83
-  row-4 : (m : Message) (c : kinds.Command) → NewCommand s lent byte m c → three (s .store .books) c ≡ false → four (s .store .books) c ≡ true
+  row-4 : (m : Message) (c : kinds.Command) → NewCommand s lent byte m c → three (s .store) c ≡ false → four (s .store) c ≡ true
       → ByDevice s lent byte (tells 4 (answerWith m [] 0xA0 0x83 (s .store .books)) lent (remembers s byte m (answerWith m [] 0xA0 0x83 (s .store .books)) (s .store)))
   -- 5, broken frame: NAK (1.8); all but where reading stands is as it was
   row-5 : enough lent ≡ true → reads s byte .event ≡ brokenFrame → ByDevice s lent byte (tells 5 (0x15 ∷ []) lent (moved s byte))
   -- 6, repeat: the last answer (1.10); all but where reading stands is as it was
   row-6 : (m : Message) → enough lent ≡ true → reads s byte .event ≡ heard m → repeats (s .before) m ≡ true
       → ByDevice s lent byte (tells 6 (lastAnswer (s .before)) lent (moved s byte))
-  -- 7, less than 217 bytes lent: nothing is given back; the byte is not taken, and everything stays (2.4)
+  -- 7, less than 217 bytes or 512 lines lent: nothing is given back; the byte is not taken, and everything stays (2.4)
   row-7 : enough lent ≡ false → ByDevice s lent byte (tells 7 [] lent s)

@@ -19,18 +19,19 @@ use Rattle.promises.specs.AtDevice.{FromDevice, tells, reads}
 use Rattle.promises.specs.AtTill.{FromTill}
 use Rattle.promises.specs.Demand1.{Bench, atDevice, atTill, fromDevice, fromTill, benchAfter, ByTheTable}
 
--- what is handed from call to call: the device's fields and two arrays, the till end's fields and two arrays
+-- what is handed from call to call: the device's fields, two arrays and sheet, the till end's fields and two arrays
 pub record Machines : Type 0 where
   pub device : device.Machine
   pub till : Till
   pub sent : List ℕ
   pub answer : List ℕ
 
--- PROTOCOL 8.4, 8.5: as `device::fresh` and `till::fresh` give them, with arrays of any contents
+-- PROTOCOL 8.4, 8.5, 8.8: as `machine::fresh` and `till::fresh` give them, with arrays and a sheet of any contents
 pub record Fresh (f : Machines) : Type 0 where
   pub device : f .device .device ≡ device.freshFields
   pub frame : length (f .device .frame) ≡ 256
   pub last : length (f .device .last) ≡ 217
+  pub sheet : 512 ≤ length (f .device .sheet)
   pub till : f .till ≡ fields.tillOf till.freshState
   pub sent : length (f .sent) ≡ 256
   pub answer : length (f .answer) ≡ 256

@@ -2,6 +2,7 @@
 -- `AtTill` say its rows. Both ends stay within their memory: every function of the code is proved to reach no byte outside what is lent to it.
 use Prim.Native.Nat.{ℕ}
 use mathlib.Core.List.{List, [], _∷_}
+use Rattle.sheet.specs.declared.Line.{Line}
 use Rattle.store.specs.Store.{Store, freshStore}
 use Rattle.machine.specs.Device.{Lent}
 use Rattle.line.specs.Turns as line
@@ -14,8 +15,9 @@ pub record Bench : Type 0 where
   pub device : line.State Store
   pub till : till.State
 
-abbrev pub freshBench : Bench
-freshBench = record { device = line.switchedOn freshStore; till = till.freshState }
+-- whatever the sheet holds
+abbrev pub freshBench : List Line → Bench
+freshBench sheet = record { device = line.switchedOn (freshStore sheet); till = till.freshState }
 
 -- PROTOCOL 2.4: what comes, with what is lent for it: any length, any contents
 pub data Comes : Type 0 where

@@ -10,6 +10,7 @@ use Rattle.kinds.specs.declared.Parsed.the-variants.{Read, Syntax, Unknown}
 use Rattle.command.specs.Commands.{parsedOf}
 use Rattle.books.specs.declared.Books.{Books}
 use Rattle.history.specs.Entries.{Entry}
+use Rattle.sheet.specs.declared.Line.{Line}
 use Rattle.line.specs.Turns.{State, Turn, switchedOn}
 use Rattle.store.specs.Store.{Store, freshStore}
 use Rattle.machine.specs.Device.{Lent, lentTurn}
@@ -19,9 +20,9 @@ pub record LentByte : Type 0 where
   pub lent : Lent
   pub byte : ℕ
 
--- PROTOCOL 1.1: a recording, with 217 bytes lent each time
+-- PROTOCOL 1.1: a recording, with 217 bytes and 512 lines lent each time
 abbrev pub alwaysLent : List ℕ → List LentByte
-alwaysLent = map (λ b. record { lent = record { buffer = replicate 217 0 }; byte = b })
+alwaysLent = map (λ b. record { lent = record { buffer = replicate 217 0; lines = 512 }; byte = b })
 
 abbrev pub turnBy : State Store → LentByte → Turn Store
 turnBy s a = lentTurn (a .lent) s (a .byte)
@@ -65,18 +66,18 @@ abbrev pub toldBy : List Entry → List (Turn Store) → List Entry
 toldBy es [] = es
 toldBy es (t ∷ ts) = toldBy (withTurn t (t .carried) es) ts
 
--- of a fresh device: its entries, and what it is left with
-abbrev pub freshDevice : State Store
-freshDevice = switchedOn freshStore
+-- of a fresh device, whatever the sheet held that it is lent: its entries, and what it is left with
+abbrev pub freshDevice : List Line → State Store
+freshDevice sheet = switchedOn (freshStore sheet)
 
-abbrev pub entriesOf : List LentByte → List Entry
-entriesOf arrived = toldBy [] (turnsOf freshDevice arrived)
+abbrev pub entriesOf : List Line → List LentByte → List Entry
+entriesOf sheet arrived = toldBy [] (turnsOf (freshDevice sheet) arrived)
 
-abbrev pub storeAfter : List LentByte → Store
-storeAfter arrived = deviceAfter freshDevice arrived .store
+abbrev pub storeAfter : List Line → List LentByte → Store
+storeAfter sheet arrived = deviceAfter (freshDevice sheet) arrived .store
 
-abbrev pub booksAfter : List LentByte → Books
-booksAfter arrived = storeAfter arrived .books
+abbrev pub booksAfter : List Line → List LentByte → Books
+booksAfter sheet arrived = storeAfter sheet arrived .books
 
 -- PROTOCOL 5.14: cash in an answer to 70, the 12 digits behind `P,`, read back as a number
 abbrev pub cashIn : List ℕ → ℕ

@@ -8,8 +8,10 @@ use lib.Dec.{leb, ltb}
 use lib.ListN.{length, drop}
 use borrow.Author.Tests.{leb-true, ltb-true}
 use Rattle.basics.proofs.Tests.{both}
-use Rattle.machine.specs.Hearing.{PartHeard, afterPart}
-use Rattle.recorder.specs.Running.{Running, placeAfter, machineIn, lentIn, behindCall, oneCall, callsLeft, running, heardThrough}
+use Rattle.sheet.specs.declared.Line.{Line}
+use Rattle.machine.specs.Hearing.{PartHeard, partOf, afterPart}
+use Rattle.machine.specs.declared.Hearing.{Hearing}
+use Rattle.recorder.specs.Running.{NotedDown, placeAfter, notedDown, Running, machineIn, lentIn, behindCall, oneCall, callsLeft, running, heardThrough}
 
 module _ (bytes : List ℕ) where
   abbrev total : ℕ
@@ -75,3 +77,12 @@ module _ (bytes : List ℕ) where
 
   pub run-done : (s : Running) → s .run .more ≡ false → heardThrough bytes s ≡ s
   run-done s e = stops (callsLeft bytes s) s e
+
+  -- what a call hands back, noted down, is one call more
+  pub call-is : (s : Running) (h : Hearing) (frame last buffer : List ℕ) (sheet : List Line) (n : NotedDown)
+      → partOf h frame last buffer sheet (length (s .sheet)) ≡ afterPart (machineIn s) (lentIn s) (drop (s .run .place) bytes)
+      → n ≡ notedDown (s .run) h frame buffer (length bytes) (s .out) (s .orders)
+      → record { run = n .run; frame = frame; last = last; buffer = buffer; sheet = sheet; out = n .out; orders = n .orders } ≡ oneCall bytes s
+  call-is s h frame last buffer sheet n e en =
+      ap (λ (z : NotedDown). record { run = z .run; frame = frame; last = last; buffer = buffer; sheet = sheet; out = z .out; orders = z .orders }) en
+      ∙ ap (behindCall s (length bytes)) e
