@@ -205,7 +205,7 @@ room-kept sheet at next (TakesBack l) =
     length-set (set sheet at (takenBack (getD sheet at blank))) next l ∙ length-set sheet at (takenBack (getD sheet at blank))
 
 -- there are as many lines as are counted
-count-more : (minus : Bool) (s : Sale) (ls : List Line) → length (cond minus (withoutNewest s ls) ls) ≡ length ls
+pub count-more : (minus : Bool) (s : Sale) (ls : List Line) → length (cond minus (withoutNewest s ls) ls) ≡ length ls
 count-more true s ls = as-many s ls
 count-more false s ls = refl
 
