@@ -7,7 +7,7 @@ use Prim.Native.Nat.{ℕ, _+_, _-_, _≤_, _<_}
 use native.Mathlib.Omega.{arith}
 use lib.Dec.{leb, ltb, eqb}
 use lib.ListN.{length}
-use borrow.Author.Tests.{ltb-true, ltb-false, eq-eqb, not-false}
+use borrow.Author.Tests.{ltb-true, ltb-false, eq-eqb, not-true}
 use Rattle.basics.proofs.Tests.{both}
 use Rattle.kinds.specs.declared.Command.the-variants.{Sell}
 use Rattle.kinds.specs.declared.Sale.{Sale}
@@ -33,7 +33,7 @@ use Rattle.history.specs.Entries.{Entry, entryOf, didOf}
 use Rattle.history.specs.History.{ReceiptTold, isAnother, withSale, receiptAfter, figuresOf}
 use Rattle.history.specs.Reached.{Reached}
 use Rattle.history.specs.Sold.{isLike, newestLike, withoutNewest, matchTold, amountTold, soldAfter}
-use Rattle.history.specs.TakingBack.{linesIn, lineAt, sameReceipt, AddedBy, TookBack, standing, worthOf, linesAdded, linesOff}
+use Rattle.history.specs.TakingBack.{linesIn, lineAt, sameReceipt, AddedBy, by-newest, by-earlier, TookBack, standing, worthOf, linesAdded, linesOff}
 use Rattle.history.proofs.Places.{at-newest, at-older, like-parts, FoundIn, found-in, SameOrBack, same-or-back, one-fewer, worth-less}
 use Rattle.history.proofs.Sheets.{as-many, count-more, match-for}
 use Rattle.history.proofs.Steps.{Free, Step, refused, goes, line-done, taken}
@@ -124,10 +124,135 @@ module _ (es : List Entry) (i : ℕ) (lt : i < length (linesIn es)) (back : line
   still-back (n ∷ later) e =
       let parts = both (not (isAnother (didOf n))) (sameReceipt later) e in
       let before = still-back later (parts .1) in
-      let now = line-after (figuresOf (later ++ es) .receipt) (didOf n) (n .shown) (true-not (isAnother (didOf n)) (parts .0)) i (before .0) in
+      let now = line-after (figuresOf (later ++ es) .receipt) (didOf n) (n .shown) (not-true (isAnother (didOf n)) (parts .0)) i (before .0) in
       (now .0,
       ⊎-elim (λ same. same ∙ before .1) (λ other. absurd (false≢true (sym back ∙ sym (ap (λ (l : Line). l .stands) (before .1)) ∙ other .0))) (now .1))
 
 pub taken-back-for-good : (later es : List Entry) → sameReceipt later ≡ true → (i : ℕ) → i < length (linesIn es) → lineAt i (linesIn es) .stands ≡ false
     → lineAt i (linesIn (later ++ es)) ≡ lineAt i (linesIn es)
 taken-back-for-good later es e i lt back = still-back es i lt back later e .1
+
+-- a line that stands was sold by an entry of this receipt
+module _ (e : Entry) (es : List Entry) (older : (i : ℕ) → i < length (linesIn es) → lineAt i (linesIn es) .stands ≡ true → AddedBy (lineAt i (linesIn es)) es) where
+  abbrev now : View → List Line
+  now v = receiptAfter v (e .shown) (figuresOf es .receipt) .sold
+
+  stays-added : (v : View) → didOf e ≡ v → isAnother v ≡ false → (i : ℕ) → i < length (linesIn es) → lineAt i (now v) .stands ≡ true → AddedBy (lineAt i (now v)) (e ∷ es)
+  stays-added v is other i lt stands =
+      ⊎-elim
+      (λ same. by-earlier (ap isAnother is ∙ other) (subst (λ l. AddedBy l es) (sym same) (older i lt (sym (ap (λ (l : Line). l .stands) same) ∙ stands))))
+      (λ back. absurd (false≢true (sym (back .1) ∙ stands)))
+      (line-after (figuresOf es .receipt) v (e .shown) other i lt .1)
+
+  new-line : (x : Sale) → didOf e ≡ Sells x → (l : Line) → l ≡ lineOf x (amountTold (linesIn es) x) → l .stands ≡ true → AddedBy l (e ∷ es)
+  new-line x is l same stands =
+      let plus : x .minus ≡ false = not-true (x .minus) (sym (ap (λ (z : Line). z .stands) same) ∙ stands) in
+      by-newest x is plus (same ∙ ap (λ t. lineOf x (cond t (cond {A = Match} t (newestLike x (linesIn es)) noMatch .amount) (finishedOf (productOf x) (x .adjust)))) plus)
+
+  sold-line : (x : Sale) → didOf e ≡ Sells x → (i : ℕ) → i < length (now (Sells x)) → lineAt i (now (Sells x)) .stands ≡ true → AddedBy (lineAt i (now (Sells x))) (e ∷ es)
+  sold-line x is i lt stands = go (ltb i (length (linesIn es))) refl
+    where
+      go : (t : Bool) → ltb i (length (linesIn es)) ≡ t → AddedBy (lineAt i (now (Sells x))) (e ∷ es)
+      go true k = stays-added (Sells x) is refl i (ltb-true i (length (linesIn es)) k) stands
+      go false k =
+          new-line x is (lineAt i (now (Sells x)))
+          (at-newest (lineOf x (amountTold (linesIn es) x)) (cond (x .minus) (withoutNewest x (linesIn es)) (linesIn es)) i
+          (omega (arith, lt, ltb-false i (length (linesIn es)) k, count-more (x .minus) x (linesIn es))))
+          stands
+
+  added-by : (v : View) → didOf e ≡ v → (i : ℕ) → i < length (now v) → lineAt i (now v) .stands ≡ true → AddedBy (lineAt i (now v)) (e ∷ es)
+  added-by (Opens p) is i lt stands = absurd (omega arith)
+  added-by (Sells x) is i lt stands = sold-line x is i lt stands
+  added-by (Pays p) is i lt stands = stays-added (Pays p) is refl i lt stands
+  added-by Closes is i lt stands = absurd (omega arith)
+  added-by Cancels is i lt stands = absurd (omega arith)
+  added-by OpensText is i lt stands = stays-added OpensText is refl i lt stands
+  added-by ClosesText is i lt stands = stays-added ClosesText is refl i lt stands
+  added-by Clears is i lt stands = stays-added Clears is refl i lt stands
+  added-by (Puts n) is i lt stands = stays-added (Puts n) is refl i lt stands
+  added-by (Takes n) is i lt stands = stays-added (Takes n) is refl i lt stands
+  added-by (Asks when shown) is i lt stands = stays-added (Asks when shown) is refl i lt stands
+
+pub what-stands-was-sold : (es : List Entry) (i : ℕ) → i < length (linesIn es) → lineAt i (linesIn es) .stands ≡ true → AddedBy (lineAt i (linesIn es)) es
+what-stands-was-sold [] i lt stands = absurd (omega arith)
+what-stands-was-sold (e ∷ es) i lt stands = added-by e es (what-stands-was-sold es) (didOf e) refl i lt stands
+
+-- a line done with `-`, where one like it is found
+module _ (es : List Entry) (e : Entry) (x : Sale) (is : didOf e ≡ Sells x) (minus : x .minus ≡ true) where
+  abbrev amount : ℕ
+  amount = amountTold (linesIn es) x
+
+  lines-then : linesIn (e ∷ es) ≡ lineOf x amount ∷ withoutNewest x (linesIn es)
+  lines-then =
+      ap (λ v. receiptAfter v (e .shown) (figuresOf es .receipt) .sold) is ∙ ap (λ t. lineOf x amount ∷ cond t (withoutNewest x (linesIn es)) (linesIn es)) minus
+
+  place-then : (i : ℕ) → i < length (linesIn es) → lineAt i (linesIn (e ∷ es)) ≡ lineAt i (withoutNewest x (linesIn es))
+  place-then i lt =
+      ap (lineAt i) lines-then ∙ at-older (lineOf x amount) (withoutNewest x (linesIn es)) i (λ z. omega (arith, z, as-many x (linesIn es)))
+
+  -- the new line does not stand
+  worth-then : (g : ℕ) → worthOf g (linesIn (e ∷ es)) ≡ worthOf g (withoutNewest x (linesIn es))
+  worth-then g =
+      ap (worthOf g) lines-then ∙ ap (λ t. cond (not t && eqb (x .group) g) amount 0 + worthOf g (withoutNewest x (linesIn es))) minus ∙ omega arith
+
+  took : newestLike x (linesIn es) .found ≡ true → TookBack x es (e ∷ es)
+  took found =
+      let f = found-in x (linesIn es) found in
+      let like = like-parts (lineAt (f .place) (linesIn es)) x (f .like) in
+      record {
+        place = f .place;
+        among = f .among;
+        added = what-stands-was-sold es (f .place) (f .among) (like .stood);
+        stood = like .stood;
+        price = like .price;
+        quantity = like .quantity;
+        group = like .group;
+        last = f .last;
+        marked = place-then (f .place) (f .among) ∙ f .marked;
+        others = λ i lt z. place-then i lt ∙ f .others i lt z;
+        off = λ g. omega (arith, the-sums-are-what-stands (e ∷ es) g, the-sums-are-what-stands es g, worth-then g, worth-less x g (linesIn es), ap (λ n. cond (eqb (x .group) g) n 0) (f .amount));
+      }
+
+-- "a minus line must now find the last plus line of the same price, quantity and group not yet taken back, and takes off its finished amount, discount and
+-- all": a line done with `-` has taken such a line back
+pub a-line-off-takes-back-one-sold : (es : List Entry) (s : Store) (x : Sale) → Reached (s .books) → Agrees es s → deedOn s (Sells x) .number ≡ 0 → x .minus ≡ true
+    → TookBack x es (entryOf (s .books) (Sell x) (deedOn s (Sells x)) ∷ es)
+a-line-off-takes-back-one-sold es s x k h z minus = go (taken (s .books) (matchFor s (Sells x)) (Sell x)) z (entryOf (s .books) (Sell x) (deedOn s (Sells x)) .shown)
+  where
+    go : {d : Deed} → Step (s .books) (matchFor s (Sells x)) (Sells x) d → d .number ≡ 0 → (shown : List ℕ)
+        → TookBack x es (record { command = Sell x; number = d .number; shown = shown } ∷ es)
+    go (refused n l) z shown = absurd (omega (arith, z))
+    go (goes free) z shown =
+        took es (record { command = Sell x; number = 0; shown = shown }) x refl minus
+        (ap (λ (m : Match). m .found) (sym (found-told es s x k h minus)) ∙ line-done (s .books) (matchFor s (Sells x)) x free .found minus)
+
+-- "An apprentice took back a coffee that nobody had sold": without a line like it that stands, the answer is 3
+none-found : (x : Sale) (ls : List Line) → ((i : ℕ) → i < length ls → isLike (lineAt i ls) x ≡ false) → (t : Bool) → newestLike x ls .found ≡ t → t ≡ false
+none-found x ls none true e =
+    let f = found-in x ls e in
+    sym (f .like) ∙ none (f .place) (f .among)
+none-found x ls none false e = refl
+
+last-reason : (a b : Bool) → b ≡ true → a || b ≡ true
+last-reason true b e = refl
+last-reason false b e = e
+
+no-line : (minus found below : Bool) → minus ≡ true → found ≡ false → minus && (not found || below) ≡ true
+no-line minus found below e f = rw (e, f)
+
+pub what-nobody-sold-is-refused : (es : List Entry) (s : Store) (x : Sale) → Reached (s .books) → Agrees es s → Given (Sells x) → x .minus ≡ true
+    → ((i : ℕ) → i < length (linesIn es) → isLike (lineAt i (linesIn es)) x ≡ false) → deedOn s (Sells x) .number ≡ 3
+what-nobody-sold-is-refused es s x k h given minus none =
+    let b = s .books in
+    let m = matchFor s (Sells x) in
+    let enabled = isEnabled (rateIn b (x .group)) in
+    let missing : m .found ≡ false = ap (λ (m : Match). m .found) (found-told es s x k h minus) ∙ none-found x (linesIn es) none (newestLike x (linesIn es) .found) refl in
+    let below = ltb (at (b .receipt .groups) (x .group)) (m .amount) in
+    let three : ruleOf b m (Sells x) .three ≡ true =
+    last-reason (noneOpen b) (notPermitted (b .receipt) x m enabled)
+    (last-reason (b .receipt .tried || leb 512 (b .receipt .lines) || not enabled || tooMuchOff (productOf x) (x .adjust)) (x .minus && (not (m .found) || below)) (no-line (x .minus) (m .found) below minus missing)) in
+    number-three (ruleOf b m (Sells x) .one) (ruleOf b m (Sells x) .three) (given .one b m) three
+  where
+    number-three : (one three : Bool) → one ≡ false → three ≡ true
+        → cond {A = Deed} one (refusedWith 1 (s .books)) (cond three (refusedWith 3 (s .books)) (cond (ruleOf (s .books) (matchFor s (Sells x)) (Sells x) .four) (refusedWith 4 (s .books)) (doneWith (ruleOf (s .books) (matchFor s (Sells x)) (Sells x) .after) (ruleOf (s .books) (matchFor s (Sells x)) (Sells x) .shows) (ruleOf (s .books) (matchFor s (Sells x)) (Sells x) .note)))) .number ≡ 3
+    number-three one three e f = rw (e, f)
