@@ -28,7 +28,7 @@ use Rattle.store.specs.Store.{Store, freshStore}
 use Rattle.store.specs.Commands.{placeFor, matchFor, deedOn, leftBy, leftOn}
 use Rattle.deeds.specs.declared.Deed.{Deed}
 use Rattle.answers.specs.Contents.{contentOf}
-use Rattle.history.specs.Agrees.{Says, Agrees, toldBooks}
+use Rattle.history.specs.Agrees.{Says, Agrees, toldBooks, LeadsTo, fresh, next}
 use Rattle.history.specs.Digits.{Given}
 use Rattle.history.specs.Entries.{Entry, entryOf, isDone, didOf}
 use Rattle.history.specs.History.{receiptTotal, paidSum, receiptAfter, figuresOf, after}
@@ -37,6 +37,7 @@ use Rattle.history.specs.Sold.{Holds}
 use Rattle.history.proofs.Lists.{eight-at, same-eight}
 use Rattle.history.proofs.Agreeing.{agreeing, no-registers, new-receipt}
 use Rattle.history.proofs.Digits.{left-fits}
+use Rattle.history.proofs.Reaching.{fresh-reached, reached-stays}
 use Rattle.history.proofs.Sheets.{match-for, sheet-kept, room-kept, count-kept}
 use Rattle.history.proofs.Steps.{Step, refused, goes, taken}
 
@@ -82,6 +83,15 @@ fresh-agrees sheet room =
       count = refl;
       room = room;
     }
+
+-- so in every history of a fresh device
+pub history-reached : {es : List Entry} {s : Store} → LeadsTo es s → Reached (s .books)
+history-reached (fresh sheet room) = fresh-reached
+history-reached (next {es} {s} c given past) = reached-stays (s .books) (matchFor s (viewOf c)) c (history-reached past)
+
+pub history-agrees : {es : List Entry} {s : Store} → LeadsTo es s → Agrees es s
+history-agrees (fresh sheet room) = fresh-agrees sheet room
+history-agrees (next {es} {s} c given past) = agreement-stays es s c (history-reached past) given (history-agrees past)
 
 -- what is due is never cut off at zero
 pub never-overpaid : (es : List Entry) (s : Store) → Reached (s .books) → Agrees es s → paidSum es ≤ receiptTotal es

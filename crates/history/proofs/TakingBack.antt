@@ -20,20 +20,23 @@ use Rattle.books.specs.Groups.{at}
 use Rattle.books.specs.Rates.{rateIn, isEnabled}
 use Rattle.rules.specs.Reasons.{noneOpen}
 use Rattle.rules.specs.Rules.{ruleOf}
-use Rattle.rules.specs.Views.{ofSale}
+use Rattle.rules.specs.Views.{ofSale, viewOf}
+use Rattle.books.specs.declared.Shown.the-variants.{Nothing}
 use Rattle.rules.specs.declared.views.View.{View}
+use Rattle.rules.specs.declared.views.When.the-variants.{Always}
 use Rattle.rules.specs.declared.views.View.the-variants.{Opens, Sells, Pays, Closes, Cancels, OpensText, ClosesText, Clears, Puts, Takes, Asks}
 use Rattle.deeds.specs.Deeds.{refusedWith, doneWith}
 use Rattle.deeds.specs.declared.Deed.{Deed}
 use Rattle.store.specs.Commands.{matchFor, deedOn}
 use Rattle.store.specs.Store.{Store}
-use Rattle.history.specs.Agrees.{Agrees, LeadsTo}
+use Rattle.history.specs.Agrees.{Agrees, LeadsTo, fresh, next}
 use Rattle.history.specs.Digits.{Given}
-use Rattle.history.specs.Entries.{Entry, entryOf, didOf}
+use Rattle.history.specs.Entries.{Entry, entryOf, isDone, didOf}
 use Rattle.history.specs.History.{ReceiptTold, isAnother, withSale, receiptAfter, figuresOf}
 use Rattle.history.specs.Reached.{Reached}
 use Rattle.history.specs.Sold.{isLike, newestLike, withoutNewest, matchTold, amountTold, soldAfter}
-use Rattle.history.specs.TakingBack.{linesIn, lineAt, sameReceipt, AddedBy, by-newest, by-earlier, TookBack, standing, worthOf, linesAdded, linesOff}
+use Rattle.history.specs.TakingBack.{linesIn, lineAt, sameReceipt, AddedBy, by-newest, by-earlier, TookBack, standing, worthOf, linesWhere, linesAdded, linesOff}
+use Rattle.history.proofs.Histories.{history-reached, history-agrees}
 use Rattle.history.proofs.Places.{at-newest, at-older, like-parts, FoundIn, found-in, SameOrBack, same-or-back, one-fewer, worth-less}
 use Rattle.history.proofs.Sheets.{as-many, count-more, match-for}
 use Rattle.history.proofs.Steps.{Free, Step, refused, goes, line-done, taken}
@@ -256,3 +259,42 @@ what-nobody-sold-is-refused es s x k h given minus none =
     number-three : (one three : Bool) → one ≡ false → three ≡ true
         → cond {A = Deed} one (refusedWith 1 (s .books)) (cond three (refusedWith 3 (s .books)) (cond (ruleOf (s .books) (matchFor s (Sells x)) (Sells x) .four) (refusedWith 4 (s .books)) (doneWith (ruleOf (s .books) (matchFor s (Sells x)) (Sells x) .after) (ruleOf (s .books) (matchFor s (Sells x)) (Sells x) .shows) (ruleOf (s .books) (matchFor s (Sells x)) (Sells x) .note)))) .number ≡ 3
     number-three one three e f = rw (e, f)
+
+-- each line done with `-` took one line back, and never the same: the lines that stand and those done with `-` are together as many as were sold
+abbrev linesAfter : (Sale → Bool) → List Entry → View → ℕ
+linesAfter p es v = cond (isAnother v) 0 (linesWhere p es + ofSale 0 (λ s. cond (p s) 1 0) v)
+
+abbrev Counted : List Entry → View → List ℕ → Type 0
+Counted es v shown =
+    standing (receiptAfter v shown (figuresOf es .receipt) .sold) + linesAfter (λ s. s .minus) es v ≡ linesAfter (λ s. not (s .minus)) es v
+
+one-more : (x : Sale) (ls : List Line) (off added : ℕ) (minus : Bool) → standing ls + off ≡ added → (minus ≡ true → newestLike x ls .found ≡ true)
+    → cond (not minus) 1 0 + standing (cond minus (withoutNewest x ls) ls) + (off + cond minus 1 0) ≡ added + cond (not minus) 1 0
+one-more x ls off added true e found = omega (arith, one-fewer x ls (found refl))
+one-more x ls off added false e found = omega arith
+
+counted-done : (es : List Entry) (s : Store) → Reached (s .books) → Agrees es s → standing (linesIn es) + linesOff es ≡ linesAdded es → (v : View) (shown : List ℕ)
+    → Free (s .books) (matchFor s v) v → Counted es v shown
+counted-done es s k h e (Opens p) shown free = refl
+counted-done es s k h e (Sells x) shown free =
+    one-more x (linesIn es) (linesOff es) (linesAdded es) (x .minus) e
+    (λ minus. ap (λ (m : Match). m .found) (sym (found-told es s x k h minus)) ∙ line-done (s .books) (matchFor s (Sells x)) x free .found minus)
+counted-done es s k h e (Pays p) shown free = omega arith
+counted-done es s k h e Closes shown free = refl
+counted-done es s k h e Cancels shown free = refl
+counted-done es s k h e OpensText shown free = omega arith
+counted-done es s k h e ClosesText shown free = omega arith
+counted-done es s k h e Clears shown free = omega arith
+counted-done es s k h e (Puts n) shown free = omega arith
+counted-done es s k h e (Takes n) shown free = omega arith
+counted-done es s k h e (Asks when shown′) shown free = omega arith
+
+counted-next : (es : List Entry) (s : Store) → Reached (s .books) → Agrees es s → standing (linesIn es) + linesOff es ≡ linesAdded es → (v : View) (shown : List ℕ) {d : Deed}
+    → Step (s .books) (matchFor s v) v d → Counted es (cond (isDone (d .number)) v (Asks Always Nothing)) shown
+counted-next es s k h e v shown (refused n l) = omega arith
+counted-next es s k h e v shown (goes free) = counted-done es s k h e v shown free
+
+pub each-takes-one-back : {es : List Entry} {s : Store} → LeadsTo es s → standing (linesIn es) + linesOff es ≡ linesAdded es
+each-takes-one-back (fresh sheet room) = refl
+each-takes-one-back (next {es} {s} c given past) =
+    counted-next es s (history-reached past) (history-agrees past) (each-takes-one-back past) (viewOf c) (entryOf (s .books) c (deedOn s (viewOf c)) .shown) (taken (s .books) (matchFor s (viewOf c)) c)
