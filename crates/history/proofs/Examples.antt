@@ -42,6 +42,7 @@ abbrev on : List Entry → Store → List Command → List Entry
 on es s [] = es
 on es s (c ∷ cs) = on (entryOf (s .books) c (deedOn s (viewOf c)) ∷ es) (leftOn s (viewOf c)) cs
 
+-- their reply numbers, newest first
 abbrev numbers : List Entry → List ℕ
 numbers = map (λ e. e .number)
 
@@ -92,21 +93,28 @@ one-closing = refl
 pub memory : figuresOf (told day) .memory .total ≡ 1267
 memory = refl
 
--- 0.75 less 10 percent is 0.67, and that comes off when it is taken back; a second time there is none (3), and it is not counted
-abbrev discounted : Command
-discounted = Sell (record { group = 1; minus = false; price = 199; quantity = 375; adjust = PercentLess 1000 })
-
+-- 0.75 less 10 percent comes to 0.67, and that is what is off once the line is taken back, discount and all
 abbrev back : Command
 back = Sell (record { group = 1; minus = true; price = 199; quantity = 375; adjust = Nothing })
 
-pub taken-back : figuresOf (told (sold ++ back ∷ [])) .receipt .sums 1 ≡ 1200
+pub finished-amount-off : figuresOf (told (sold ++ back ∷ [])) .receipt .sums 1 ≡ 1200
 unfolding newest
-taken-back = refl
+finished-amount-off = refl
 
-pub three-lines : linesSold (told (sold ++ back ∷ [])) ≡ 3
-unfolding newest
-three-lines = refl
-
+-- a second time there is none (3), and it is not counted
 pub not-twice : (numbers (told (sold ++ back ∷ back ∷ [])) ≡ 3 ∷ 0 ∷ 0 ∷ 0 ∷ 0 ∷ []) × (linesSold (told (sold ++ back ∷ back ∷ [])) ≡ 3)
 unfolding newest
 not-twice = (refl, refl)
+
+-- sold once more, without the discount: the last one sold goes first, 0.75, then the other, 0.67
+abbrev again : Command
+again = Sell (record { group = 1; minus = false; price = 199; quantity = 375; adjust = Nothing })
+
+pub last-one-first : (figuresOf (told (sold ++ again ∷ back ∷ [])) .receipt .sums 1 ≡ 1267) × (figuresOf (told (sold ++ again ∷ back ∷ back ∷ [])) .receipt .sums 1 ≡ 1200)
+unfolding newest
+last-one-first = (refl, refl)
+
+-- 1.000 of it was never sold (3)
+pub not-sold : numbers (told (sold ++ Sell (record { group = 1; minus = true; price = 199; quantity = 1000; adjust = Nothing }) ∷ [])) ≡ 3 ∷ 0 ∷ 0 ∷ 0 ∷ []
+unfolding newest
+not-sold = refl

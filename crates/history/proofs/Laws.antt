@@ -1,27 +1,33 @@
 -- Laws of one command.
-use mathlib.Core.Path.{_≡_, refl}
-use mathlib.Core.Bool.{true}
+use mathlib.Core.Path.{_≡_, refl, sym, ap}
+use mathlib.Core.Bool.{true, false, false≢true}
 use Prim.Native.Nat.{_≤_}
 use native.Mathlib.Omega.{arith}
+use lib.ListN.{length, replicate}
 use Rattle.kinds.specs.declared.Command.{Command}
 use Rattle.kinds.specs.declared.Command.the-variants.{Sell, Closing, Drawer}
+use Rattle.kinds.specs.declared.Password.{Password}
 use Rattle.kinds.specs.declared.Sale.{Sale}
 use Rattle.kinds.specs.declared.Service.{Service}
 use Rattle.kinds.specs.declared.Service.the-variants.{Report, In, Out}
+use Rattle.sheet.specs.Notes.{noted}
+use Rattle.sheet.specs.Sheet.{blank}
 use Rattle.sheet.specs.declared.Match.{Match}
+use Rattle.sheet.specs.declared.Note.the-variants as note
 use Rattle.books.specs.Groups.{at}
 use Rattle.books.specs.declared.Books.{Books}
 use Rattle.books.specs.declared.Shown.the-variants as shown
 use Rattle.rules.specs.Rules.{ruleOf}
 use Rattle.rules.specs.Views.{viewOf}
 use Rattle.rules.specs.declared.views.View.{View}
-use Rattle.rules.specs.declared.views.View.the-variants.{Sells, Clears}
+use Rattle.rules.specs.declared.views.View.the-variants.{Opens, Sells, Pays, Closes, Cancels, OpensText, ClosesText, Clears, Puts, Takes, Asks}
 use Rattle.deeds.specs.Deeds.{carriedOut}
 use Rattle.deeds.specs.declared.Deed.{Deed}
 use Rattle.store.specs.Store.{Store}
-use Rattle.store.specs.Commands.{matchFor, deedOn, leftOn}
+use Rattle.store.specs.Commands.{placeFor, matchFor, deedOn, leftOn}
+use Rattle.history.specs.Entries.{does}
 use Rattle.history.specs.Reached.{Unchanged, DayCleared}
-use Rattle.history.proofs.Steps.{Step, refused, goes, taken, line-done}
+use Rattle.history.proofs.Steps.{Step, refused, goes, judging, taken, line-done}
 
 refusing : {b : Books} {m : Match} {v : View} {d : Deed} → Step b m v d → (d .number ≡ 0 → ⊥) → Unchanged b d
 refusing (refused n h) z = record { books = refl; shown = refl; note = refl; number = omega arith }
@@ -36,6 +42,36 @@ pub a-refusal-leaves-the-store : (s : Store) (c : Command) → (deedOn s (viewOf
 a-refusal-leaves-the-store s c z =
     let same = a-refusal-changes-nothing (s .books) (matchFor s (viewOf c)) c z in
     rw (same .books, same .note)
+
+-- "Opening a fiscal receipt empties the sheet; otherwise only a line taken changes it."
+emptying : (s : Store) (p : Password) {m : Match} {d : Deed} → Step (s .books) m (Opens p) d → d .number ≡ 0 → d .note ≡ note.Empties
+emptying s p (refused n h) z = absurd (omega (arith, z))
+emptying s p (goes f) z = refl
+
+pub opening-empties-the-sheet : (s : Store) (p : Password) → deedOn s (Opens p) .number ≡ 0 → leftOn s (Opens p) .sheet ≡ replicate (length (s .sheet)) blank
+opening-empties-the-sheet s p z =
+    ap (noted (s .sheet) (placeFor s (Opens p)) (s .books .receipt .lines)) (emptying s p (judging (s .books) (matchFor s (Opens p)) (Opens p)) z)
+
+no-note : (b : Books) (m : Match) (v : View) → does 48 v ≡ false → does 49 v ≡ false → ruleOf b m v .note ≡ note.Nothing
+no-note b m (Opens p) e f = absurd (false≢true (sym e))
+no-note b m (Sells s) e f = absurd (false≢true (sym f))
+no-note b m (Pays p) e f = refl
+no-note b m Closes e f = refl
+no-note b m Cancels e f = refl
+no-note b m OpensText e f = refl
+no-note b m ClosesText e f = refl
+no-note b m Clears e f = refl
+no-note b m (Puts n) e f = refl
+no-note b m (Takes n) e f = refl
+no-note b m (Asks when shown) e f = refl
+
+leaving : {b : Books} {m : Match} {v : View} {d : Deed} → Step b m v d → does 48 v ≡ false → does 49 v ≡ false → d .note ≡ note.Nothing
+leaving (refused n h) e f = refl
+leaving {b} {m} {v} (goes free) e f = no-note b m v e f
+
+pub all-else-leaves-the-sheet : (s : Store) (v : View) → does 48 v ≡ false → does 49 v ≡ false → leftOn s v .sheet ≡ s .sheet
+all-else-leaves-the-sheet s v e f =
+    ap (noted (s .sheet) (placeFor s v) (s .books .receipt .lines)) (leaving (judging (s .books) (matchFor s v) v) e f)
 
 clearing : {b : Books} {m : Match} {d : Deed} → Step b m Clears d → d .number ≡ 0 → DayCleared b (d .books)
 clearing (refused n h) z = absurd (omega (arith, z))

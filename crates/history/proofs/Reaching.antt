@@ -27,7 +27,6 @@ use Rattle.books.proofs.Sounding.{memory-in, parts, within-eight, day-within}
 use Rattle.rules.specs.Effects.{payment}
 use Rattle.rules.specs.Reasons.{memoryOver, manyOpened, owed, tendered}
 use Rattle.rules.specs.Rules.{ruleOf}
-use Rattle.rules.specs.Views.{viewOf}
 use Rattle.rules.specs.declared.views.View.{View}
 use Rattle.rules.specs.declared.views.View.the-variants.{Opens, Sells, Pays, Closes, Cancels, OpensText, ClosesText, Clears, Puts, Takes, Asks}
 use Rattle.rules.proofs.Reasoning.{none-of, few-receipts}

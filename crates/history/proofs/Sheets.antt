@@ -49,7 +49,7 @@ some-quantity s e =
     let four = both (ltb (s .group) 8 && ltb (s .price) 10000000000 && ltb 0 (s .quantity)) (ltb (s .quantity) 100000000000) (all .0) in
     ltb-true 0 (s .quantity) (both (ltb (s .group) 8 && ltb (s .price) 10000000000) (ltb 0 (s .quantity)) (four .0) .1)
 
-pub line-read : (s : Sale) (a : ℕ) → fits s ≡ true → a ≤ 99999999 → readAs (lineOf s a) ≡ lineOf s a
+line-read : (s : Sale) (a : ℕ) → fits s ≡ true → a ≤ 99999999 → readAs (lineOf s a) ≡ lineOf s a
 line-read s a e small =
     let p = fits-parts s e in
     let q = some-quantity s e in
@@ -68,11 +68,11 @@ holds-more sheet ls n x e h r k =
 
 pub as-many : (s : Sale) (ls : List Line) → length (withoutNewest s ls) ≡ length ls
 as-many s [] = refl
-as-many s (l ∷ ls) = go (as-many s ls) (isLike l s)
+as-many s (l ∷ ls) = go (as-many s ls) (isLike l s) refl
   where
-    go : length (withoutNewest s ls) ≡ length ls → (t : Bool) → length (cond t (takenBack l ∷ ls) (l ∷ withoutNewest s ls)) ≡ suc (length ls)
-    go older true = refl
-    go older false = ap suc older
+    go : length (withoutNewest s ls) ≡ length ls → (t : Bool) → isLike l s ≡ t → length (withoutNewest s (l ∷ ls)) ≡ suc (length ls)
+    go older true e = rw e
+    go older false e = rw e (ap suc older)
 
 module _ (sheet : List Line) (s : Sale) (none : ℕ) where
   -- where the search of the first n records ends
@@ -112,21 +112,23 @@ module _ (sheet : List Line) (s : Sale) (none : ℕ) where
     where
       go : Holds (marked (place (length ls))) (withoutNewest s ls) → (t : Bool)
           → Holds (marked (cond t (length ls) (place (length ls)))) (cond t (takenBack l ∷ ls) (l ∷ withoutNewest s ls))
-      go older true =
-          (ap readAs (getD-set-same sheet (length ls) (takenBack (getD sheet (length ls) blank)) blank (omega arith)) ∙ ap takenBack (k .0)
-          , holds-past sheet ls (length ls) (takenBack (getD sheet (length ls) blank)) (omega arith) (k .1))
-      go older false =
-          (ap (λ n. readAs (getD (marked (place (length ls))) n blank)) (as-many s ls)
-          ∙ ap readAs (getD-set-other sheet (place (length ls)) (length ls) (takenBack (getD sheet (place (length ls)) blank)) blank (ends-within (length ls) (length ls) (omega arith) (omega arith)))
-          ∙ k .0
-          , older)
+      go older true = (
+        ap readAs (getD-set-same sheet (length ls) (takenBack (getD sheet (length ls) blank)) blank (omega arith)) ∙ ap takenBack (k .0),
+        holds-past sheet ls (length ls) (takenBack (getD sheet (length ls) blank)) (omega arith) (k .1),
+      )
+      go older false = (
+        ap (λ n. readAs (getD (marked (place (length ls))) n blank)) (as-many s ls)
+            ∙ ap readAs (getD-set-other sheet (place (length ls)) (length ls) (takenBack (getD sheet (place (length ls)) blank)) blank (ends-within (length ls) (length ls) (omega arith) (omega arith)))
+            ∙ k .0,
+        older,
+      )
 
 -- a search of as many records as there are lines
 module _ (sheet ls : List Line) (s : Sale) (n : ℕ) (all : n ≡ length ls) (k : Holds sheet ls) where
   abbrev search : Bool → Search
   search minus = cond minus (record { lines = n; wanted = lineOf s 0 }) noSearch
 
-  pub match-told : matchOf sheet (search (s .minus)) ≡ matchTold ls s
+  match-told : matchOf sheet (search (s .minus)) ≡ matchTold ls s
   unfolding newest
   match-told = go (s .minus)
     where
@@ -135,7 +137,7 @@ module _ (sheet ls : List Line) (s : Sale) (n : ℕ) (all : n ≡ length ls) (k 
       go false = refl
 
   -- and what the line leaves
-  pub line-left : (next : ℕ) → next ≡ length ls → next < length sheet → (a : ℕ) → readAs (lineOf s a) ≡ lineOf s a
+  line-left : (next : ℕ) → next ≡ length ls → next < length sheet → (a : ℕ) → readAs (lineOf s a) ≡ lineOf s a
       → Holds (noted sheet (placeOf sheet (search (s .minus))) next (noteOf s a)) (lineOf s a ∷ cond (s .minus) (withoutNewest s ls) ls)
   line-left next last room a r = go (lineOf s a) r (s .minus)
     where

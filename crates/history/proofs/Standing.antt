@@ -2,7 +2,7 @@
 use mathlib.Core.Path.{_≡_, refl, sym, ap, _∙_, subst}
 use mathlib.Core.Bool.{Bool, true, false, cond, not, _&&_, false≢true}
 use mathlib.Core.List.{List, [], _∷_, _++_}
-use mathlib.Core.Logic.{⊎-elim, inl, inr}
+use mathlib.Core.Logic.{⊎-elim, inl}
 use Prim.Native.Nat.{ℕ, _+_, _-_, _≤_, _<_}
 use native.Mathlib.Omega.{arith}
 use lib.Dec.{ltb, eqb}
@@ -92,9 +92,10 @@ module _ (es : List Entry) (i : ℕ) (lt : i < length (linesIn es)) (back : line
   still-back (n ∷ later) e =
       let parts = both (not (isAnother (didOf n))) (sameReceipt later) e in
       let before = still-back later (parts .1) in
-      let now = line-after (figuresOf (later ++ es) .receipt) (didOf n) (n .shown) (not-true (isAnother (didOf n)) (parts .0)) i (before .0) in
-      (now .0,
-      ⊎-elim (λ same. same ∙ before .1) (λ other. absurd (false≢true (sym back ∙ sym (ap (λ (l : Line). l .stands) (before .1)) ∙ other .0))) (now .1))
+      let now = line-after (figuresOf (later ++ es) .receipt) (didOf n) (n .shown) (not-true (isAnother (didOf n)) (parts .0)) i (before .0) in (
+        now .0,
+        ⊎-elim (λ same. same ∙ before .1) (λ other. absurd (false≢true (sym back ∙ sym (ap (λ (l : Line). l .stands) (before .1)) ∙ other .0))) (now .1),
+      )
 
 -- one that stands is one that stood, or the newest entry sold it
 module _ (e : Entry) (es : List Entry) (older : (i : ℕ) → i < length (linesIn es) → lineAt i (linesIn es) .stands ≡ true → AddedBy (lineAt i (linesIn es)) es) where
