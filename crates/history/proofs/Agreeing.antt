@@ -9,8 +9,9 @@ use borrow.Author.Tests.{eq-eqb, ne-eqb}
 use Rattle.kinds.specs.declared.Mode.{Mode}
 use Rattle.kinds.specs.declared.Mode.the-variants.{Cash, N, C, D, B}
 use Rattle.kinds.specs.declared.Sale.{Sale}
-use Rattle.receipt.specs.Lines.{productOf, finishedOf}
-use Rattle.receipt.specs.Receipts.{emptyReceipt, groupAfter, withLine}
+use Rattle.sheet.specs.declared.Match.{Match}
+use Rattle.receipt.specs.Receipts.{emptyReceipt, amountOf, groupAfter, withLine}
+use Rattle.receipt.proofs.Adjusting.{fits-parts}
 use Rattle.books.specs.Groups.{eight, at, sum}
 use Rattle.books.specs.Registers.{place}
 use Rattle.books.specs.Sound.{withReceiptOf}
@@ -27,9 +28,11 @@ use Rattle.history.specs.Agrees.{ReceiptAgrees, Says}
 use Rattle.history.specs.Digits.{leftOf}
 use Rattle.history.specs.History.{Figures, noneTold, withSale, after}
 use Rattle.history.specs.Reached.{Reached, Receipted}
+use Rattle.history.specs.Sold.{amountTold}
 use Rattle.history.proofs.Lists.{set-other, same-eight}
 use Rattle.history.proofs.Payments.{paid-in}
 use Rattle.history.proofs.Reaching.{reaching}
+use Rattle.history.proofs.Sheets.{matchIn}
 use Rattle.history.proofs.Steps.{Free, line-done, payment-done}
 
 pub new-receipt : ReceiptAgrees noneTold emptyReceipt
@@ -43,19 +46,23 @@ no-registers D lt = refl
 no-registers B lt = refl
 
 -- 49
-line-here : (minus : Bool) (x p f : ℕ) → cond minus (x - p) (x + f) ≡ x + cond (not minus) f 0 - cond minus p 0
-line-here true x p f = omega arith
-line-here false x p f = omega arith
+line-here : (minus : Bool) (x a : ℕ) → cond minus (x - a) (x + a) ≡ x + cond (not minus) a 0 - cond minus a 0
+line-here true x a = omega arith
+line-here false x a = omega arith
 
-module _ (f : Figures) (b : Books) (h : Says f b) (s : Sale) where
+module _ (f : Figures) (b : Books) (h : Says f b) (m : Match) (s : Sale) (told : amountOf s m ≡ amountTold (f .receipt .sold) s) where
+  abbrev amount : ℕ
+  amount = amountTold (f .receipt .sold) s
+
   -- the group's sum, where the line is in this group, and where not
   abbrev sumIf : ℕ → Bool → ℕ
-  sumIf g same = f .receipt .sums g + cond (same && not (s .minus)) (finishedOf (productOf s) (s .adjust)) 0 - cond (same && s .minus) (productOf s) 0
+  sumIf g same = f .receipt .sums g + cond (same && not (s .minus)) amount 0 - cond (same && s .minus) amount 0
 
-  here : (g : ℕ) → g < 8 → s .group ≡ g → groupAfter (b .receipt) s ≡ withSale (f .receipt) s .sums g
+  here : (g : ℕ) → g < 8 → s .group ≡ g → groupAfter (b .receipt) s m ≡ withSale (f .receipt) s .sums g
   here g lt e =
-      ap (λ x. cond (s .minus) (x - productOf s) (x + finishedOf (productOf s) (s .adjust))) (ap (at (b .receipt .groups)) e ∙ h .receipt .groups g lt)
-      ∙ line-here (s .minus) (f .receipt .sums g) (productOf s) (finishedOf (productOf s) (s .adjust))
+      ap (λ x. cond (s .minus) (x - amountOf s m) (x + amountOf s m)) (ap (at (b .receipt .groups)) e ∙ h .receipt .groups g lt)
+      ∙ ap (λ a. cond (s .minus) (f .receipt .sums g - a) (f .receipt .sums g + a)) told
+      ∙ line-here (s .minus) (f .receipt .sums g) amount
       ∙ sym (ap (sumIf g) (eq-eqb (s .group) g e))
 
   elsewhere : (g : ℕ) → g < 8 → (g ≡ s .group → ⊥) → at (b .receipt .groups) g ≡ withSale (f .receipt) s .sums g
@@ -63,17 +70,17 @@ module _ (f : Figures) (b : Books) (h : Says f b) (s : Sale) where
       let same : at (b .receipt .groups) g ≡ f .receipt .sums g + 0 - 0 = omega (arith, h .receipt .groups g lt) in
       same ∙ sym (ap (sumIf g) (ne-eqb (s .group) g (λ e. z (sym e))))
 
-  line-groups : length (b .receipt .groups) ≡ 8 → s .group < 8 → (g : ℕ) → g < 8 → at (withLine (b .receipt) s .groups) g ≡ withSale (f .receipt) s .sums g
+  line-groups : length (b .receipt .groups) ≡ 8 → s .group < 8 → (g : ℕ) → g < 8 → at (withLine (b .receipt) s m .groups) g ≡ withSale (f .receipt) s .sums g
   line-groups eight-long small =
-      set-other (λ g x. g < 8 → x ≡ withSale (f .receipt) s .sums g) (b .receipt .groups) (s .group) (groupAfter (b .receipt) s) (omega arith)
+      set-other (λ g x. g < 8 → x ≡ withSale (f .receipt) s .sums g) (b .receipt .groups) (s .group) (groupAfter (b .receipt) s m) (omega arith)
       (λ lt. here (s .group) lt refl)
       (λ g z lt. elsewhere g lt z)
 
   -- the total is the history's, where the groups are
-  line-sold : Receipted (b .receipt) → s .group < 8 → Receipted (withLine (b .receipt) s) → ReceiptAgrees (withSale (f .receipt) s) (withLine (b .receipt) s)
+  line-sold : Receipted (b .receipt) → s .group < 8 → Receipted (withLine (b .receipt) s m) → ReceiptAgrees (withSale (f .receipt) s) (withLine (b .receipt) s m)
   line-sold old small new =
       let groups = line-groups (old .eight-groups) small in
-      let total = new .total ∙ ap sum (same-eight (at (withLine (b .receipt) s .groups)) (withSale (f .receipt) s .sums) groups) in
+      let total = new .total ∙ ap sum (same-eight (at (withLine (b .receipt) s m .groups)) (withSale (f .receipt) s .sums) groups) in
       record {
         groups = groups;
         total = total;
@@ -88,10 +95,10 @@ module _ (f : Figures) (b : Books) (h : Says f b) (s : Sale) where
 abbrev closedWith : Memory → List ℕ → Memory
 closedWith m sums = record { closings = m .closings + 1; total = m .total + sum sums }
 
--- by the views
-pub agreeing : (f : Figures) (b : Books) → Says f b → Reached b → (v : View) → Free b v → leftOf (ruleOf b v .shows) < 10 ^ 10
-    → Says (after v (contentOf (ruleOf b v .shows) (b .day) (ruleOf b v .after)) f) (ruleOf b v .after)
-agreeing f b h k (Opens p) free small =
+-- by the views; what the sheet brings a line is what the entries tell
+pub agreeing : (f : Figures) (b : Books) → Says f b → Reached b → (m : Match) (v : View) → m ≡ matchIn (f .receipt .sold) v → Free b m v
+    → leftOf (ruleOf b m v .shows) < 10 ^ 10 → Says (after v (contentOf (ruleOf b m v .shows) (b .day) (ruleOf b m v .after)) f) (ruleOf b m v .after)
+agreeing f b h k m (Opens p) told free small =
     record {
       opened = refl;
       receipt = new-receipt;
@@ -101,18 +108,18 @@ agreeing f b h k (Opens p) free small =
       counters = rw (h .counters);
       memory = h .memory;
     }
-agreeing f b h k (Sells s) free small =
+agreeing f b h k m (Sells s) told free small =
     record {
       opened = h .opened;
-      receipt = line-sold f b h s (k .receipt) (line-done b s free .group) (reaching b k (Sells s) free .receipt);
+      receipt = line-sold f b h m s (ap (amountOf s) told) (k .receipt) (fits-parts s (line-done b m s free .fields) .0) (reaching b k m (Sells s) free .receipt);
       day = h .day;
       registers = h .registers;
       drawer = h .drawer;
       counters = h .counters;
       memory = h .memory;
     }
-agreeing f b h k (Pays p) free small = paid-in f b h (k .four-registers) p (payment-done b p free .unpaid) small
-agreeing f b h k Closes free small =
+agreeing f b h k m (Pays p) told free small = paid-in f b h (k .four-registers) p (payment-done b m p free .unpaid) small
+agreeing f b h k m Closes told free small =
     record {
       opened = refl;
       receipt = new-receipt;
@@ -122,13 +129,13 @@ agreeing f b h k Closes free small =
       counters = h .counters;
       memory = h .memory;
     }
-agreeing f b h k Cancels free small =
+agreeing f b h k m Cancels told free small =
     record { opened = refl; receipt = new-receipt; day = h .day; registers = h .registers; drawer = h .drawer; counters = h .counters; memory = h .memory }
-agreeing f b h k OpensText free small =
+agreeing f b h k m OpensText told free small =
     record { opened = refl; receipt = h .receipt; day = h .day; registers = h .registers; drawer = h .drawer; counters = rw (h .counters); memory = h .memory }
-agreeing f b h k ClosesText free small =
+agreeing f b h k m ClosesText told free small =
     record { opened = refl; receipt = h .receipt; day = h .day; registers = h .registers; drawer = h .drawer; counters = h .counters; memory = h .memory }
-agreeing f b h k Clears free small =
+agreeing f b h k m Clears told free small =
     record {
       opened = h .opened;
       receipt = h .receipt;
@@ -138,7 +145,7 @@ agreeing f b h k Clears free small =
       counters = refl;
       memory = ap (λ m. closedWith m (eight (at (b .day)))) (h .memory) ∙ ap (closedWith (f .memory)) (same-eight (at (b .day)) (f .day) (h .day));
     }
-agreeing f b h k (Puts n) free small =
+agreeing f b h k m (Puts n) told free small =
     record {
       opened = h .opened;
       receipt = h .receipt;
@@ -153,7 +160,7 @@ agreeing f b h k (Puts n) free small =
       counters = h .counters;
       memory = h .memory;
     }
-agreeing f b h k (Takes n) free small =
+agreeing f b h k m (Takes n) told free small =
     let enough = takes-within b n (free .three) in
     record {
       opened = h .opened;
@@ -169,4 +176,4 @@ agreeing f b h k (Takes n) free small =
       counters = h .counters;
       memory = h .memory;
     }
-agreeing f b h k (Asks when shown) free small = h
+agreeing f b h k m (Asks when shown) told free small = h

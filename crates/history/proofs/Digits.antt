@@ -9,6 +9,7 @@ use Rattle.kinds.specs.declared.Command.{Command}
 use Rattle.kinds.specs.declared.Tender.{Tender}
 use Rattle.kinds.specs.declared.Tender.the-variants.{Rest, Amount}
 use Rattle.basics.proofs.Tests.{both}
+use Rattle.sheet.specs.declared.Match.{Match}
 use Rattle.receipt.specs.Receipts.{givenOf}
 use Rattle.books.specs.Groups.{at}
 use Rattle.books.specs.declared.Books.{Books}
@@ -55,25 +56,25 @@ left-small : (full : Bool) (given rest : ℕ) → given < 10000000000 → rest <
 left-small true given rest h k = omega arith
 left-small false given rest h k = omega arith
 
-pub left-fits : (b : Books) → Reached b → (v : View) → Given v → leftOf (ruleOf b v .shows) < 10 ^ 10
-left-fits b h (Pays p) i =
+pub left-fits : (b : Books) → Reached b → (m : Match) (v : View) → Given v → leftOf (ruleOf b m v .shows) < 10 ^ 10
+left-fits b h m (Pays p) i =
     let k : Kept b = parts b (h .fits) in
     let small : owed b < 10000000000 = omega (arith, k .total) in
-    left-small (leb (owed b) (tendered b p)) (tendered b p) (owed b) (given-small (owed b) (p .tender) small (not-false (tenderHolds (p .tender)) (i .one b))) small
-left-fits b h (Asks when shown) i = omega (arith, i .rest)
-left-fits b h (Opens p) i = omega arith
-left-fits b h (Sells s) i = omega arith
-left-fits b h Closes i = omega arith
-left-fits b h Cancels i = omega arith
-left-fits b h OpensText i = omega arith
-left-fits b h ClosesText i = omega arith
-left-fits b h Clears i = omega arith
-left-fits b h (Puts n) i = omega arith
-left-fits b h (Takes n) i = omega arith
+    left-small (leb (owed b) (tendered b p)) (tendered b p) (owed b) (given-small (owed b) (p .tender) small (not-false (tenderHolds (p .tender)) (i .one b m))) small
+left-fits b h m (Asks when shown) i = omega (arith, i .rest)
+left-fits b h m (Opens p) i = omega arith
+left-fits b h m (Sells s) i = omega arith
+left-fits b h m Closes i = omega arith
+left-fits b h m Cancels i = omega arith
+left-fits b h m OpensText i = omega arith
+left-fits b h m ClosesText i = omega arith
+left-fits b h m Clears i = omega arith
+left-fits b h m (Puts n) i = omega arith
+left-fits b h m (Takes n) i = omega arith
 
-pub rest-and-change-fit : (b : Books) (c : Command) → Reached b → Given (viewOf c) → leftOf (carriedOut b c .shown) < 10 ^ 10
-rest-and-change-fit b c h i = go (viewOf c) i (taken b c)
+pub rest-and-change-fit : (b : Books) (m : Match) (c : Command) → Reached b → Given (viewOf c) → leftOf (carriedOut b m c .shown) < 10 ^ 10
+rest-and-change-fit b m c h i = go (viewOf c) i (taken b m c)
   where
-    go : (v : View) → Given v → {d : Deed} → Step b v d → leftOf (d .shown) < 10 ^ 10
-    go v i (refused m l) = omega arith
-    go v i (goes f) = left-fits b h v i
+    go : (v : View) → Given v → {d : Deed} → Step b m v d → leftOf (d .shown) < 10 ^ 10
+    go v i (refused n l) = omega arith
+    go v i (goes f) = left-fits b h m v i

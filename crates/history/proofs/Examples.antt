@@ -1,7 +1,9 @@
 -- A day of the paper's own figures, told from its history.
 use mathlib.Core.Path.{_≡_, refl}
 use mathlib.Core.Bool.{true, false}
-use mathlib.Core.List.{List, [], _∷_, _++_}
+use Prim.Native.Nat.{ℕ}
+use mathlib.Core.List.{List, [], _∷_, _++_, map}
+use lib.ListN.{replicate}
 use Rattle.text.specs.Digits.{digits, number}
 use Rattle.kinds.specs.declared.Adjust.the-variants.{Nothing, PercentLess}
 use Rattle.kinds.specs.declared.Command.{Command}
@@ -9,9 +11,10 @@ use Rattle.kinds.specs.declared.Command.the-variants.{Open, Sell, Pay, Close, C
 use Rattle.kinds.specs.declared.Mode.the-variants.{Cash, N}
 use Rattle.kinds.specs.declared.Service.the-variants.{In, Out}
 use Rattle.kinds.specs.declared.Tender.the-variants.{Amount}
-use Rattle.books.specs.Books.{freshBooks}
-use Rattle.books.specs.declared.Books.{Books}
-use Rattle.deeds.specs.Deeds.{carriedOut}
+use Rattle.sheet.specs.Sheet.{blank, newest}
+use Rattle.rules.specs.Views.{viewOf}
+use Rattle.store.specs.Commands.{deedOn, leftOn}
+use Rattle.store.specs.Store.{Store, freshStore}
 use Rattle.history.specs.Entries.{Entry, entryOf}
 use Rattle.history.specs.History.{dueIn, linesSold, paymentTried, paidInFull, putIn, takenOut, figuresOf}
 
@@ -34,13 +37,17 @@ paid = sold ++ Pay (record { mode = Cash; tender = Amount 2000 }) ∷ Close ∷ 
 abbrev day : List Command
 day = paid ++ Drawer (In 500) ∷ Drawer (Out 300) ∷ openIt ∷ Cancel ∷ Closing true ∷ []
 
--- each carried out on the books that those before it led to
-abbrev on : List Entry → Books → List Command → List Entry
-on es b [] = es
-on es b (c ∷ cs) = on (entryOf b c (carriedOut b c) ∷ es) (carriedOut b c .books) cs
+-- each carried out on what those before it left
+abbrev on : List Entry → Store → List Command → List Entry
+on es s [] = es
+on es s (c ∷ cs) = on (entryOf (s .books) c (deedOn s (viewOf c)) ∷ es) (leftOn s (viewOf c)) cs
+
+-- their reply numbers, newest first
+abbrev numbers : List Entry → List ℕ
+numbers = map (λ e. e .number)
 
 abbrev told : List Command → List Entry
-told cs = on [] freshBooks cs
+told cs = on [] (freshStore (replicate 512 blank)) cs
 
 pub still-due : dueIn (figuresOf (told sold) .receipt) ≡ 1267
 still-due = refl
@@ -85,3 +92,29 @@ one-closing = refl
 
 pub memory : figuresOf (told day) .memory .total ≡ 1267
 memory = refl
+
+-- 0.75 less 10 percent comes to 0.67, and that is what is off once the line is taken back, discount and all
+abbrev back : Command
+back = Sell (record { group = 1; minus = true; price = 199; quantity = 375; adjust = Nothing })
+
+pub finished-amount-off : figuresOf (told (sold ++ back ∷ [])) .receipt .sums 1 ≡ 1200
+unfolding newest
+finished-amount-off = refl
+
+-- a second time there is none (3), and it is not counted
+pub not-twice : (numbers (told (sold ++ back ∷ back ∷ [])) ≡ 3 ∷ 0 ∷ 0 ∷ 0 ∷ 0 ∷ []) × (linesSold (told (sold ++ back ∷ back ∷ [])) ≡ 3)
+unfolding newest
+not-twice = (refl, refl)
+
+-- sold once more, without the discount: the last one sold goes first, 0.75, then the other, 0.67
+abbrev again : Command
+again = Sell (record { group = 1; minus = false; price = 199; quantity = 375; adjust = Nothing })
+
+pub last-one-first : (figuresOf (told (sold ++ again ∷ back ∷ [])) .receipt .sums 1 ≡ 1267) × (figuresOf (told (sold ++ again ∷ back ∷ back ∷ [])) .receipt .sums 1 ≡ 1200)
+unfolding newest
+last-one-first = (refl, refl)
+
+-- 1.000 of it was never sold (3)
+pub not-sold : numbers (told (sold ++ Sell (record { group = 1; minus = true; price = 199; quantity = 1000; adjust = Nothing }) ∷ [])) ≡ 3 ∷ 0 ∷ 0 ∷ 0 ∷ []
+unfolding newest
+not-sold = refl

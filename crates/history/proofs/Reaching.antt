@@ -11,8 +11,10 @@ use Rattle.kinds.specs.declared.Mode.{Mode}
 use Rattle.kinds.specs.declared.Password.{Password}
 use Rattle.kinds.specs.declared.Payment.{Payment}
 use Rattle.kinds.specs.declared.Sale.{Sale}
+use Rattle.sheet.specs.declared.Match.{Match}
 use Rattle.receipt.specs.Lines.{productOf, finishedOf}
 use Rattle.receipt.specs.Receipts.{emptyReceipt, groupAfter, withLine}
+use Rattle.receipt.proofs.Adjusting.{fits-parts}
 use Rattle.books.specs.Books.{freshBooks, fiscalOpen, textOpen, anyOpen, withReceipt, withDrawer, withRegisters}
 use Rattle.books.specs.Groups.{eight, at, sum}
 use Rattle.books.specs.Registers.{place, registerOf, raisedBy}
@@ -25,7 +27,6 @@ use Rattle.books.proofs.Sounding.{memory-in, parts, within-eight, day-within}
 use Rattle.rules.specs.Effects.{payment}
 use Rattle.rules.specs.Reasons.{memoryOver, manyOpened, owed, tendered}
 use Rattle.rules.specs.Rules.{ruleOf}
-use Rattle.rules.specs.Views.{viewOf}
 use Rattle.rules.specs.declared.views.View.{View}
 use Rattle.rules.specs.declared.views.View.the-variants.{Opens, Sells, Pays, Closes, Cancels, OpensText, ClosesText, Clears, Puts, Takes, Asks}
 use Rattle.rules.proofs.Reasoning.{none-of, few-receipts}
@@ -34,13 +35,14 @@ use Rattle.deeds.specs.declared.Deed.{Deed}
 use Rattle.history.specs.Reached.{Reached, Receipted}
 use Rattle.history.proofs.Lists.{sum-eight-set}
 use Rattle.history.proofs.Soundness.{fresh-is-sound, step-sound}
-use Rattle.history.proofs.Steps.{Free, Step, Line, refused, goes, line-done, payment-done, taken}
+use Rattle.history.proofs.Steps.{Free, Step, LineDone, refused, goes, line-done, payment-done, taken}
 
 pub empty-receipted : Receipted emptyReceipt
 empty-receipted =
     record {
       eight-groups = refl;
       total = refl;
+      few-lines = omega arith;
       not-overpaid = omega arith;
       paid-up = λ e. refl;
       unpaid = λ e. refl;
@@ -48,19 +50,20 @@ empty-receipted =
     }
 
 -- a line changes the total by what it changes its group
-line-total : (minus : Bool) (all after x p f total : ℕ) → (minus ≡ true → p ≤ x) → total ≡ all → after + x ≡ all + cond minus (x - p) (x + f)
-    → cond minus (total - p) (total + f) ≡ after
+line-total : (minus : Bool) (all after x p f total : ℕ) → (minus ≡ true → p ≤ x) → total ≡ all
+    → after + x ≡ all + cond minus (x - cond minus p f) (x + cond minus p f) → cond minus (total - cond minus p f) (total + cond minus p f) ≡ after
 line-total true all after x p f total h e s = omega (arith, h refl)
 line-total false all after x p f total h e s = omega arith
 
 module _ (b : Books) (h : Receipted (b .receipt)) where
-  pub line-receipted : (s : Sale) → Line b s → Receipted (withLine (b .receipt) s)
-  line-receipted s l =
+  pub line-receipted : (m : Match) (s : Sale) → LineDone b m s → Receipted (withLine (b .receipt) s m)
+  line-receipted m s l =
       let r = b .receipt in
       record {
-        eight-groups = length-set (r .groups) (s .group) (groupAfter r s) ∙ h .eight-groups;
-        total = line-total (s .minus) (sum (eight (at (r .groups)))) (sum (eight (at (set (r .groups) (s .group) (groupAfter r s))))) (at (r .groups) (s .group)) (productOf s) (finishedOf (productOf s) (s .adjust)) (r .total) (l .plain) (h .total)
-            (sum-eight-set (r .groups) (s .group) (groupAfter r s) (h .eight-groups) (l .group));
+        eight-groups = length-set (r .groups) (s .group) (groupAfter r s m) ∙ h .eight-groups;
+        total = line-total (s .minus) (sum (eight (at (r .groups)))) (sum (eight (at (set (r .groups) (s .group) (groupAfter r s m))))) (at (r .groups) (s .group)) (m .amount) (finishedOf (productOf s) (s .adjust)) (r .total) (l .covered) (h .total)
+            (sum-eight-set (r .groups) (s .group) (groupAfter r s m) (h .eight-groups) (fits-parts s (l .fields) .0));
+        few-lines = omega (arith, l .few);
         not-overpaid = omega (arith, h .unpaid (l .untried));
         paid-up = λ e. absurd (false≢true (sym (h .unsettled (l .untried)) ∙ e));
         unpaid = h .unpaid;
@@ -72,6 +75,7 @@ module _ (b : Books) (h : Receipted (b .receipt)) where
       record {
         eight-groups = h .eight-groups;
         total = h .total;
+        few-lines = h .few-lines;
         not-overpaid = omega (arith, h .not-overpaid);
         paid-up = λ e. omega (arith, h .not-overpaid, leb-true (owed b) (tendered b p) e);
         unpaid = λ e. absurd (false≢true (sym e));
@@ -104,72 +108,72 @@ text-fiscal Text e = refl
 never : {A : Type 0} (o : Opened) → fiscalOpen o ≡ true → fiscalOpen o ≡ false → A
 never o e f = absurd (false≢true (sym f ∙ e))
 
-pub reaching : (b : Books) → Reached b → (v : View) → Free b v → Reached (ruleOf b v .after)
-reaching b h (Opens p) f =
-    record { fits = step-sound b (h .fits) (Opens p) f; receipt = empty-receipted; eight-sums = h .eight-sums; four-registers = h .four-registers; blank = λ e. refl }
-reaching b h (Sells s) f =
-    let l = line-done b s f in
+pub reaching : (b : Books) → Reached b → (m : Match) (v : View) → Free b m v → Reached (ruleOf b m v .after)
+reaching b h m (Opens p) f =
+    record { fits = step-sound b (h .fits) m (Opens p) f; receipt = empty-receipted; eight-sums = h .eight-sums; four-registers = h .four-registers; blank = λ e. refl }
+reaching b h m (Sells s) f =
+    let l = line-done b m s f in
     record {
-      fits = step-sound b (h .fits) (Sells s) f;
-      receipt = line-receipted b (h .receipt) s l;
+      fits = step-sound b (h .fits) m (Sells s) f;
+      receipt = line-receipted b (h .receipt) m s l;
       eight-sums = h .eight-sums;
       four-registers = h .four-registers;
       blank = never (b .opened) (l .isOpen);
     }
-reaching b h (Pays p) f =
-    raised-reached (withReceipt b (b .opened) (payment b p .receipt)) (p .mode) (min (tendered b p) (owed b)) (step-sound b (h .fits) (Pays p) f)
-    (paid-receipted b (h .receipt) p) (h .eight-sums) (h .four-registers) (never (b .opened) (payment-done b p f .isOpen))
-reaching b h Closes f =
-    record { fits = step-sound b (h .fits) Closes f; receipt = empty-receipted; eight-sums = refl; four-registers = h .four-registers; blank = λ e. refl }
-reaching b h Cancels f =
-    record { fits = step-sound b (h .fits) Cancels f; receipt = empty-receipted; eight-sums = h .eight-sums; four-registers = h .four-registers; blank = λ e. refl }
-reaching b h OpensText f =
+reaching b h m (Pays p) f =
+    raised-reached (withReceipt b (b .opened) (payment b p .receipt)) (p .mode) (min (tendered b p) (owed b)) (step-sound b (h .fits) m (Pays p) f)
+    (paid-receipted b (h .receipt) p) (h .eight-sums) (h .four-registers) (never (b .opened) (payment-done b m p f .isOpen))
+reaching b h m Closes f =
+    record { fits = step-sound b (h .fits) m Closes f; receipt = empty-receipted; eight-sums = refl; four-registers = h .four-registers; blank = λ e. refl }
+reaching b h m Cancels f =
+    record { fits = step-sound b (h .fits) m Cancels f; receipt = empty-receipted; eight-sums = h .eight-sums; four-registers = h .four-registers; blank = λ e. refl }
+reaching b h m OpensText f =
     let none = none-of (anyOpen (b .opened)) (manyOpened b) (f .three) in
     record {
-      fits = step-sound b (h .fits) OpensText f;
+      fits = step-sound b (h .fits) m OpensText f;
       receipt = h .receipt;
       eight-sums = h .eight-sums;
       four-registers = h .four-registers;
       blank = λ e. h .blank (none-fiscal (b .opened) (none .0));
     }
-reaching b h ClosesText f =
+reaching b h m ClosesText f =
     record {
-      fits = step-sound b (h .fits) ClosesText f;
+      fits = step-sound b (h .fits) m ClosesText f;
       receipt = h .receipt;
       eight-sums = h .eight-sums;
       four-registers = h .four-registers;
       blank = λ e. h .blank (text-fiscal (b .opened) (not-false (textOpen (b .opened)) (f .three)));
     }
-reaching b h Clears f =
-    record { fits = step-sound b (h .fits) Clears f; receipt = h .receipt; eight-sums = refl; four-registers = refl; blank = h .blank }
-reaching b h (Puts n) f =
-    record { fits = step-sound b (h .fits) (Puts n) f; receipt = h .receipt; eight-sums = h .eight-sums; four-registers = h .four-registers; blank = h .blank }
-reaching b h (Takes n) f =
-    record { fits = step-sound b (h .fits) (Takes n) f; receipt = h .receipt; eight-sums = h .eight-sums; four-registers = h .four-registers; blank = h .blank }
-reaching b h (Asks when shown) f = h
+reaching b h m Clears f =
+    record { fits = step-sound b (h .fits) m Clears f; receipt = h .receipt; eight-sums = refl; four-registers = refl; blank = h .blank }
+reaching b h m (Puts n) f =
+    record { fits = step-sound b (h .fits) m (Puts n) f; receipt = h .receipt; eight-sums = h .eight-sums; four-registers = h .four-registers; blank = h .blank }
+reaching b h m (Takes n) f =
+    record { fits = step-sound b (h .fits) m (Takes n) f; receipt = h .receipt; eight-sums = h .eight-sums; four-registers = h .four-registers; blank = h .blank }
+reaching b h m (Asks when shown) f = h
 
 pub fresh-reached : Reached freshBooks
 fresh-reached = record { fits = fresh-is-sound; receipt = empty-receipted; eight-sums = refl; four-registers = refl; blank = λ e. refl }
 
-pub reached-stays : (b : Books) (c : Command) → Reached b → Reached (carriedOut b c .books)
-reached-stays b c h = go (taken b c)
+pub reached-stays : (b : Books) (m : Match) (c : Command) → Reached b → Reached (carriedOut b m c .books)
+reached-stays b m c h = go (taken b m c)
   where
-    go : {v : View} {d : Deed} → Step b v d → Reached (d .books)
-    go (refused m l) = h
-    go {v} (goes f) = reaching b h v f
+    go : {v : View} {d : Deed} → Step b m v d → Reached (d .books)
+    go (refused n l) = h
+    go {v} (goes f) = reaching b h m v f
 
 -- in such books 48, 56 and 69 have no reason for 4 (PROTOCOL 8.7)
-pub opening-never-over : (b : Books) (p : Password) → Reached b → ruleOf b (Opens p) .three ≡ false → ruleOf b (Opens p) .four ≡ false
-opening-never-over b p h e = lt-leb 9999 (b .counters .fiscal) (omega (arith, few-receipts b p e, parts b (h .fits) .fiscal))
+pub opening-never-over : (b : Books) (m : Match) (p : Password) → Reached b → ruleOf b m (Opens p) .three ≡ false → ruleOf b m (Opens p) .four ≡ false
+opening-never-over b m p h e = lt-leb 9999 (b .counters .fiscal) (omega (arith, few-receipts b p e, parts b (h .fits) .fiscal))
 
-pub closing-never-over : (b : Books) → Reached b → ruleOf b Closes .four ≡ false
-closing-never-over b h = ap not (parts b (h .fits) .groups)
+pub closing-never-over : (b : Books) (m : Match) → Reached b → ruleOf b m Closes .four ≡ false
+closing-never-over b m h = ap not (parts b (h .fits) .groups)
 
-pub clearing-never-over : (b : Books) → Reached b → ruleOf b Clears .four ≡ false
-clearing-never-over b h =
+pub clearing-never-over : (b : Books) (m : Match) → Reached b → ruleOf b m Clears .four ≡ false
+clearing-never-over b m h =
     let k = parts b (h .fits) in
-    let m = memory-in b (k .memory) in
+    let fm = memory-in b (k .memory) in
     let most = within-eight (at (b .day)) (day-within b (k .groups)) in
     let little : b .memory .total + sum (eight (at (b .day))) ≤ 99999999999999999 =
-    omega (arith, m .0, m .1, capacity-small b, most 0 (omega arith), most 1 (omega arith), most 2 (omega arith), most 3 (omega arith), most 4 (omega arith), most 5 (omega arith), most 6 (omega arith), most 7 (omega arith)) in
+    omega (arith, fm .0, fm .1, capacity-small b, most 0 (omega arith), most 1 (omega arith), most 2 (omega arith), most 3 (omega arith), most 4 (omega arith), most 5 (omega arith), most 6 (omega arith), most 7 (omega arith)) in
     ap (λ z. not z || memoryOver b) (k .groups) ∙ le-ltb 99999999999999999 (b .memory .total + sum (eight (at (b .day)))) little

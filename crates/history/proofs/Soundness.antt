@@ -8,6 +8,7 @@ use lib.ListN.{set}
 use Rattle.kinds.specs.declared.Command.{Command}
 use Rattle.kinds.specs.declared.Mode.{Mode}
 use Rattle.kinds.specs.declared.Sale.{Sale}
+use Rattle.sheet.specs.declared.Match.{Match}
 use Rattle.receipt.specs.Receipts.{emptyReceipt, groupAfter, withLine}
 use Rattle.receipt.specs.declared.Receipt.{Receipt}
 use Rattle.books.specs.Books.{freshBooks, withReceipt, withCounters, withDrawer, withRegisters}
@@ -31,13 +32,14 @@ use Rattle.rules.proofs.Reasoning.{few-texts, few-receipts, puts-within, fits-s
 use Rattle.deeds.specs.Deeds.{carriedOut}
 use Rattle.deeds.specs.declared.Deed.{Deed}
 use Rattle.history.proofs.Lists.{set-each}
-use Rattle.history.proofs.Steps.{Free, Step, Line, refused, goes, line-done, payment-done, room-left, taken}
+use Rattle.history.proofs.Steps.{Free, Step, LineDone, refused, goes, line-done, payment-done, room-left, taken}
 
 module _ (b : Books) (k : Kept b) where
   -- a line
-  line-in : (s : Sale) → Line b s → (g : ℕ) → g < 8 → at (b .day) g + at (set (b .receipt .groups) (s .group) (groupAfter (b .receipt) s)) g ≤ 999999999999
-  line-in s l =
-      set-each (λ g x. g < 8 → at (b .day) g + x ≤ 999999999999) (b .receipt .groups) (s .group) (groupAfter (b .receipt) s)
+  line-in : (m : Match) (s : Sale) → LineDone b m s → (g : ℕ) → g < 8
+      → at (b .day) g + at (set (b .receipt .groups) (s .group) (groupAfter (b .receipt) s m)) g ≤ 999999999999
+  line-in m s l =
+      set-each (λ g x. g < 8 → at (b .day) g + x ≤ 999999999999) (b .receipt .groups) (s .group) (groupAfter (b .receipt) s m)
       (λ lt. l .sum)
       (λ g lt. within-eight (withReceiptOf b) (k .groups) g lt)
 
@@ -113,16 +115,16 @@ module _ (b : Books) (k : Kept b) where
   closed-in g lt = omega (arith, at-eight (withReceiptOf b) g lt, within-eight (withReceiptOf b) (k .groups) g lt, zeros g)
 
 -- by the views
-staying : (b : Books) → Kept b → (v : View) → Free b v → Kept (ruleOf b v .after)
-staying b k (Opens p) f =
+staying : (b : Books) → Kept b → (m : Match) (v : View) → Free b m v → Kept (ruleOf b m v .after)
+staying b k m (Opens p) f =
     counters-kept (withReceipt b opened.Fiscal emptyReceipt) (receipt-kept b k opened.Fiscal emptyReceipt (empty-in b k) (omega arith)) _ (omega (arith, k .fiscal)) (omega (arith, few-receipts b p (f .three)))
-staying b k (Sells s) f =
-    let l = line-done b s f in
-    receipt-kept b k (b .opened) (withLine (b .receipt) s) (line-in b k s l) (l .total)
-staying b k (Pays p) f =
+staying b k m (Sells s) f =
+    let l = line-done b m s f in
+    receipt-kept b k (b .opened) (withLine (b .receipt) s m) (line-in b k m s l) (l .total)
+staying b k m (Pays p) f =
     let t = payment b p .receipt in
-    raised-kept (withReceipt b (b .opened) t) (receipt-kept b k (b .opened) t (within-eight (withReceiptOf b) (k .groups)) (k .total)) (p .mode) (min (tendered b p) (owed b)) (payment-done b p f .room)
-staying b k Closes f =
+    raised-kept (withReceipt b (b .opened) t) (receipt-kept b k (b .opened) t (within-eight (withReceiptOf b) (k .groups)) (k .total)) (p .mode) (min (tendered b p) (owed b)) (payment-done b m p f .room)
+staying b k m Closes f =
     record {
       groups = all-in (λ g. at (eight (withReceiptOf b)) g + at (emptyReceipt .groups) g) (closed-in b k);
       total = omega arith;
@@ -132,27 +134,27 @@ staying b k Closes f =
       all = k .all;
       memory = k .memory;
     }
-staying b k Cancels f = receipt-kept b k opened.Nothing emptyReceipt (empty-in b k) (omega arith)
-staying b k OpensText f =
+staying b k m Cancels f = receipt-kept b k opened.Nothing emptyReceipt (empty-in b k) (omega arith)
+staying b k m OpensText f =
     counters-kept (withReceipt b opened.Text (b .receipt)) (same-kept b k opened.Text) _ (omega (arith, k .fiscal)) (omega (arith, few-texts b (f .three)))
-staying b k ClosesText f = same-kept b k opened.Nothing
-staying b k Clears f = cleared-kept b k (room-left b f)
-staying b k (Puts n) f =
+staying b k m ClosesText f = same-kept b k opened.Nothing
+staying b k m Clears f = cleared-kept b k (room-left b m f)
+staying b k m (Puts n) f =
     let within = puts-within b n (f .four) in
     drawer-kept b k _ (record { cash = within .0; put = within .1; taken = d b k .taken })
-staying b k (Takes n) f =
+staying b k m (Takes n) f =
     drawer-kept b k _ (record { cash = omega (arith, d b k .cash); put = d b k .put; taken = fits-still (b .drawer .taken) n (f .four) })
-staying b k (Asks when shown) f = k
+staying b k m (Asks when shown) f = k
 
 pub fresh-is-sound : sound freshBooks ≡ true
 fresh-is-sound = refl
 
-pub step-sound : (b : Books) → sound b ≡ true → (v : View) → Free b v → sound (ruleOf b v .after) ≡ true
-step-sound b e v f = whole (ruleOf b v .after) (staying b (parts b e) v f)
+pub step-sound : (b : Books) → sound b ≡ true → (m : Match) (v : View) → Free b m v → sound (ruleOf b m v .after) ≡ true
+step-sound b e m v f = whole (ruleOf b m v .after) (staying b (parts b e) m v f)
 
-pub sound-stays : (b : Books) (c : Command) → sound b ≡ true → sound (carriedOut b c .books) ≡ true
-sound-stays b c e = go (taken b c)
+pub sound-stays : (b : Books) (m : Match) (c : Command) → sound b ≡ true → sound (carriedOut b m c .books) ≡ true
+sound-stays b m c e = go (taken b m c)
   where
-    go : {v : View} {d : Deed} → Step b v d → sound (d .books) ≡ true
-    go (refused m h) = e
-    go {v} (goes f) = step-sound b e v f
+    go : {v : View} {d : Deed} → Step b m v d → sound (d .books) ≡ true
+    go (refused n h) = e
+    go {v} (goes f) = step-sound b e m v f

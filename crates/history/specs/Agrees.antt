@@ -3,15 +3,20 @@ use Prim.Native.Nat.{ℕ, _-_, _≤_, _<_}
 use mathlib.Core.Path.{_≡_}
 use mathlib.Core.List.{List, [], _∷_}
 use lib.ListN.{length}
+use Rattle.kinds.specs.declared.Command.{Command}
 use Rattle.kinds.specs.declared.Mode.{Mode}
 use Rattle.kinds.specs.declared.Mode.the-variants.{N, C, D, B}
 use Rattle.books.specs.Groups.{eight, at}
 use Rattle.books.specs.Registers.{place}
 use Rattle.books.specs.declared.Books.{Books}
 use Rattle.books.specs.declared.Drawer.{Drawer}
+use Rattle.sheet.specs.declared.Line.{Line}
 use Rattle.receipt.specs.declared.Receipt.{Receipt}
-use Rattle.store.specs.Store.{Store}
-use Rattle.history.specs.Entries.{Entry}
+use Rattle.rules.specs.Views.{viewOf}
+use Rattle.store.specs.Commands.{deedOn, leftOn}
+use Rattle.store.specs.Store.{Store, freshStore}
+use Rattle.history.specs.Digits.{Given}
+use Rattle.history.specs.Entries.{Entry, entryOf}
 use Rattle.history.specs.Sold.{Holds}
 use Rattle.history.specs.History.{ReceiptTold, DrawerTold, Figures, totalIn, dueIn, figuresOf}
 
@@ -71,3 +76,9 @@ booksBy f =
 
 abbrev pub toldBooks : List Entry → Books
 toldBooks es = booksBy (figuresOf es)
+
+-- PROTOCOL 8.4, 8.8: the entries of a fresh device, and what it remembers then
+pub data LeadsTo : List Entry → Store → Type 0 where
+  fresh : (sheet : List Line) → 512 ≤ length sheet → LeadsTo [] (freshStore sheet)
+  next : {es : List Entry} {s : Store} (c : Command) → Given (viewOf c) → LeadsTo es s
+      → LeadsTo (entryOf (s .books) c (deedOn s (viewOf c)) ∷ es) (leftOn s (viewOf c))

@@ -109,9 +109,12 @@ withPayment r p shown =
 abbrev pub noneTold : ReceiptTold
 noneTold = record { sums = λ g. 0; lines = 0; sold = []; paid = 0; tried = false; settled = false }
 
+abbrev pub isAnother : View → Bool
+isAnother v = does 48 v || does 56 v || does 60 v
+
 abbrev pub receiptAfter : View → List ℕ → ReceiptTold → ReceiptTold
 receiptAfter v shown r =
-    cond (does 48 v || does 56 v || does 60 v) noneTold (ofSale (ofPayment r (λ p. withPayment r p shown) v) (λ s. withSale r s) v)
+    cond (isAnother v) noneTold (ofSale (ofPayment r (λ p. withPayment r p shown) v) (λ s. withSale r s) v)
 
 -- PROTOCOL 6.7, 5.13: a receipt's groups reach the day sums with 56, and 69 clears them
 abbrev pub dayAfter : View → ReceiptTold → (ℕ → ℕ) → ℕ → ℕ

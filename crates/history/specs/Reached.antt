@@ -36,6 +36,8 @@ pub record Receipted (r : Receipt) : Type 0 where
   pub eight-groups : length (r .groups) ≡ 8
   -- PROTOCOL 6.5: the total is the sum of the eight groups
   pub total : r .total ≡ sum (eight (at (r .groups)))
+  -- PROTOCOL 5.4
+  pub few-lines : r .lines ≤ 512
   pub not-overpaid : r .paid ≤ r .total
   -- PROTOCOL 5.6: paid in full, nothing is left to pay
   pub paid-up : r .settled ≡ true → r .paid ≡ r .total
