@@ -29,14 +29,14 @@ all-calls f ok (happens buffer h ∷ calls) =
 
 pub fresh-device : (f : Machines) → Fresh f → DeviceOk (f .device)
 fresh-device f fresh =
-    record { frames = fresh .frame; lasts = fresh .last; short = rw (fresh .device) tt; reached = rw (fresh .device) fresh-reached }
+    record { frames = fresh .frame; lasts = fresh .last; lines = fresh .sheet; short = rw (fresh .device) tt; reached = rw (fresh .device) fresh-reached }
 
 -- the theorem
-pub the-code-replies-by-the-table : (f : Machines) → Fresh f → (calls : List CodeCall) → CodeByTheTable freshBench f calls
+pub the-code-replies-by-the-table : (f : Machines) → Fresh f → (calls : List CodeCall) → CodeByTheTable (freshBench (f .device .sheet)) f calls
 the-code-replies-by-the-table f fresh calls =
     subst (λ s. CodeByTheTable s f calls) says-fresh (all-calls f fresh-ok calls)
   where
-    says-fresh : benchOf f ≡ freshBench
+    says-fresh : benchOf f ≡ freshBench (f .device .sheet)
     says-fresh = rw (fresh .device, fresh .till)
 
     fresh-ok : Ok f

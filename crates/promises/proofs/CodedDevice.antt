@@ -4,17 +4,14 @@ use mathlib.Core.Bool.{Bool, true, false, cond}
 use mathlib.Core.List.{List, [], _∷_}
 use Prim.Native.Nat.{ℕ, _≤_}
 use native.Mathlib.Omega.{arith}
+use lib.Dec.{leb}
 use lib.ListN.{length}
-use lib.Seq.{length-sets}
 use borrow.Author.Tests.{leb-true}
-use Rattle.wire.specs.Frame.{Message}
+use Rattle.basics.proofs.Tests.{both}
 use Rattle.wire.specs.declared.Way.the-variants.{ToDevice}
 use Rattle.reader.specs.Reading.{Place, Event, nothing, brokenFrame, heard, Read, read}
 use Rattle.reader.proofs.Holding.{Underway, underway-few, underway-read}
 use Rattle.reader.proofs.Running.{kept-length}
-use Rattle.answers.proofs.Shown.{shown-short}
-use Rattle.command.specs.Commands.{parsedOf}
-use Rattle.deeds.specs.declared.Deed.{Deed}
 use Rattle.history.specs.Reached.{Reached}
 use Rattle.line.specs.Turns as line
 use Rattle.line.specs.Calls.{isRepeat, isQuiet, callOf}
@@ -22,52 +19,35 @@ use Rattle.line.specs.declared.Previous.{Previous}
 use Rattle.line.specs.declared.Call.{Call}
 use Rattle.line.specs.declared.Call.the-variants.{Quiet, Nak, Again, Order}
 use Rattle.store.specs.Store.{Store}
-use Rattle.carrying.specs.Carrying.{deedFor, answerTo, carry}
+use Rattle.carrying.specs.Carrying.{carry}
+use Rattle.carrying.proofs.Eights.{Eights}
 use Rattle.machine.specs.Device as device
 use Rattle.machine.specs.Hearing.{PartHeard, oneMore, hearing, afterPart}
 use Rattle.machine.proofs.Parts.{state-back, place-kept}
-use Rattle.machine.proofs.Working.{front-stands, again-few}
+use Rattle.machine.proofs.Working.{front-stands}
+use Rattle.machine.proofs.Fitting.{few-given, last-kept, sheet-kept}
 use Rattle.till.specs.Turns as till
 use Rattle.promises.specs.AtDevice.{FromDevice, tells, row-7}
 use Rattle.promises.specs.Demand1.{Bench, atDevice, fromDevice, ByTheTable, at-device}
 use Rattle.promises.specs.Ends.{ofDevice}
 use Rattle.promises.specs.Coded.{DeviceResult, isAsking, PartByTheTable, not-taken, no-byte, asking-byte, quiet-byte}
-use Rattle.promises.proofs.Demand1.{by-the-device, deed-stays, event-stays}
-use Rattle.promises.proofs.DeviceRows.{again, ordered, short7}
-use Rattle.promises.proofs.Sizes.{answer-length}
+use Rattle.promises.proofs.Demand1.{by-the-device, event-stays}
+use Rattle.promises.proofs.DeviceRows.{short7}
 
 -- the device's fields and arrays, at the sizes that their types give, with books that a fresh device comes to
 pub record DeviceOk (m : device.Machine) : Type 0 where
   pub frames : length (m .frame) ≡ 256
   pub lasts : length (m .last) ≡ 217
   pub short : Underway ToDevice (device.stateOf m .place)
+  pub lines : 512 ≤ length (m .sheet)
   pub reached : Reached (m .device .books)
-
--- at most 217 bytes are given back: an answer, or the last one
-answer-few : (s : Store) (m : Message) → Reached (s .books) → length (carry s m .answer) ≤ 217
-answer-few s m r =
-    let b = s .books in
-    let d : Deed = deedFor b (parsedOf (m .code) (m .content)) in
-    let after : Reached (d .books) = deed-stays b (parsedOf (m .code) (m .content)) r in
-    let a : Message = answerTo b (m .seq) (m .code) d in
-    omega (arith, answer-length (m .seq) (m .code) (a .content) (a .status), shown-short (b .day) (d .books) (d .shown) (r .eight-sums) (after .eight-sums) (after .receipt .eight-groups))
 
 module _ (m : device.Machine) (ok : DeviceOk m) where
   abbrev here : line.State Store
   here = device.stateOf m
 
-  few-given : (next : Place) (e : Event) → length (line.onEvent carry here next e .gives) ≤ 217
-  few-given next nothing = omega arith
-  few-given next brokenFrame = omega arith
-  few-given next (heard n) = go (line.repeats (here .before) n)
-    where
-      go : (repeat : Bool) → length (cond repeat (again here next) (ordered here next n (carry (here .store) n)) .gives) ≤ 217
-      go true = again-few (m .device .line .previous) (m .last) (ok .lasts)
-      go false = answer-few (here .store) n (ok .reached)
-
-  last-kept : (before : line.Before) (ms : List Message) → length (device.lastAfter (m .last) ms before) ≡ 217
-  last-kept before [] = ok .lasts
-  last-kept before (n ∷ ns) = length-sets (m .last) 0 (line.lastAnswer before) ∙ ok .lasts
+  eight : Eights (m .device .books)
+  eight = record { day = ok .reached .eight-sums; groups = ok .reached .receipt .eight-groups }
 
   module _ (x : ℕ) (lent : device.Lent) where
     abbrev at : Read
@@ -82,12 +62,12 @@ module _ (m : device.Machine) (ok : DeviceOk m) where
 
     module _ (e : Event) (is : at .event ≡ e) where
       few : length (turned e .gives) ≤ 217
-      few = few-given (at .place) e
+      few = few-given m (ok .lasts) eight (at .place) e
 
       back : device.stateOf (after e .machine) ≡ turned e .state
       back =
           subst (λ z. device.stateOf (after z .machine) ≡ turned z .state) is
-          (state-back m (ok .lasts) x (underway-few ToDevice (here .place) (ok .short)) (ok .frames) (few-given (at .place) (at .event)))
+          (state-back m (ok .lasts) x (underway-few ToDevice (here .place) (ok .short)) (ok .frames) (few-given m (ok .lasts) eight (at .place) (at .event)))
 
       short-now : Underway ToDevice (turned e .state .place)
       short-now = subst (Underway ToDevice) (sym (place-kept m (ok .lasts) (at .place) e)) (underway-read ToDevice (here .place) x (ok .short))
@@ -96,8 +76,9 @@ module _ (m : device.Machine) (ok : DeviceOk m) where
       ok-after =
           record {
             frames = kept-length (m .frame) (turned e .state .place) ∙ ok .frames;
-            lasts = last-kept (turned e .state .before) (turned e .carried);
+            lasts = last-kept m (ok .lasts) (turned e .state .before) (turned e .carried);
             short = subst (Underway ToDevice) (sym (ap (λ (s : line.State Store). s .place) back)) short-now;
+            lines = omega (arith, sheet-kept m (ok .lasts) eight (at .place) e, ok .lines);
             reached = event-stays here (at .place) e (ok .reached);
           }
 
@@ -112,7 +93,7 @@ module _ (m : device.Machine) (ok : DeviceOk m) where
             (by-the-device bench lent x))
 
         result : DeviceResult (after e) (ofDevice lent (turned e))
-        result = record { number = refl; count = refl; bytes = front-stands (lent .buffer) (turned e .gives) (omega (arith, few, leb-true 217 (length (lent .buffer)) room)); lent = refl; state = back }
+        result = record { number = refl; count = refl; bytes = front-stands (lent .buffer) (turned e .gives) (omega (arith, few, leb-true 217 (length (lent .buffer)) (both (leb 217 (length (lent .buffer))) (leb 512 (lent .lines)) room .0))); lent = refl; state = back }
 
 -- a part of bytes heard, by the table
 pub record HeardBy (t : till.State) (m : device.Machine) (lent : device.Lent) (bytes : List ℕ) (p : PartHeard) : Type 0 where

@@ -10,6 +10,8 @@ use borrow.Author.Tests.{ltb-true}
 use Rattle.wire.specs.Frame.{commandOf, sendable}
 use Rattle.wire.specs.declared.Way.the-variants.{ToDevice}
 use Rattle.reader.specs.Reading.{Place, Event, nothing, brokenFrame, heard, read}
+use Rattle.sheet.specs.declared.Line.{Line}
+use Rattle.sheet.specs.declared.Match.{Match}
 use Rattle.books.specs.declared.Books.{Books}
 use Rattle.kinds.specs.declared.Parsed.{Parsed}
 use Rattle.kinds.specs.declared.Parsed.the-variants.{Read, Syntax, Unknown}
@@ -17,7 +19,8 @@ use Rattle.command.specs.Commands.{parsedOf}
 use Rattle.history.specs.Reached.{Reached}
 use Rattle.history.proofs.Reaching.{fresh-reached, reached-stays}
 use Rattle.line.specs.Turns as line
-use Rattle.carrying.specs.Carrying.{deedFor, carry}
+use Rattle.sheet.specs.Searches.{matchOf}
+use Rattle.carrying.specs.Carrying.{searchIn, deedFor, carry}
 use Rattle.store.specs.Store.{Store}
 use Rattle.machine.specs.Device.{Lent, enough, lentTurn}
 use Rattle.till.specs.Turns as till
@@ -67,10 +70,10 @@ pub by-the-till-end : (s : Bench) → till-rows.triesOf (s .till .pending) ≤ 5
 by-the-till-end s few buffer h = at-till (till-rows.has-its-row (s .till) buffer h few)
 
 -- which every event leaves: the books are such as a fresh device comes to
-pub deed-stays : (b : Books) (p : Parsed) → Reached b → Reached (deedFor b p .books)
-deed-stays b (Read c) r = reached-stays b c r
-deed-stays b Syntax r = r
-deed-stays b Unknown r = r
+pub deed-stays : (b : Books) (m : Match) (p : Parsed) → Reached b → Reached (deedFor b m p .books)
+deed-stays b m (Read c) r = reached-stays b m c r
+deed-stays b m Syntax r = r
+deed-stays b m Unknown r = r
 
 pub event-stays : (s : line.State Store) (next : Place) (e : Event) → Reached (s .store .books) → Reached (line.onEvent carry s next e .state .store .books)
 event-stays s next nothing r = r
@@ -79,7 +82,9 @@ event-stays s next (heard m) r = go (line.repeats (s .before) m)
   where
     go : (repeat : Bool) → Reached (cond repeat (device-rows.again s next) (device-rows.ordered s next m (carry (s .store) m)) .state .store .books)
     go true = r
-    go false = deed-stays (s .store .books) (parsedOf (m .code) (m .content)) r
+    go false =
+        let p = parsedOf (m .code) (m .content) in
+        deed-stays (s .store .books) (matchOf (s .store .sheet) (searchIn (s .store .books) p)) p r
 
 pub turn-stays : (lent : Lent) (s : line.State Store) (byte : ℕ) → Reached (s .store .books) → Reached (lentTurn lent s byte .state .store .books)
 turn-stays lent s byte r = go (enough lent)
@@ -128,8 +133,8 @@ pub record Proper (s : Bench) : Type 0 where
   pub books : Reached (s .device .store .books)
   pub tries : till-rows.triesOf (s .till .pending) ≤ 5
 
-pub fresh-proper : Proper freshBench
-fresh-proper = record { books = fresh-reached; tries = omega arith }
+pub fresh-proper : (sheet : List Line) → Proper (freshBench sheet)
+fresh-proper sheet = record { books = fresh-reached; tries = omega arith }
 
 pub proper-stays : (s : Bench) → Proper s → (c : Comes) → Proper (benchAfter s (outcomeOf s c))
 proper-stays s p (atDevice lent byte) = record { books = turn-stays lent (s .device) byte (p .books); tries = p .tries }
@@ -144,12 +149,12 @@ from-proper s p [] = no-more
 from-proper s p (c ∷ cs) = then (by-both s p c) (from-proper (benchAfter s (outcomeOf s c)) (proper-stays s p c) cs)
 
 -- the theorem: over every history of fresh ends each event has its reply by the table, the one that the ends give
-pub every-event-has-its-reply : (cs : List Comes) → AllByTheTable freshBench cs (outcomesOf freshBench cs)
-every-event-has-its-reply cs = from-proper freshBench fresh-proper cs
+pub every-event-has-its-reply : (sheet : List Line) (cs : List Comes) → AllByTheTable (freshBench sheet) cs (outcomesOf (freshBench sheet) cs)
+every-event-has-its-reply sheet cs = from-proper (freshBench sheet) (fresh-proper sheet) cs
 
 -- so that whatever is by the table is what the ends give
-pub no-other-replies : (cs : List Comes) (rs : List Outcome) → AllByTheTable freshBench cs rs → rs ≡ outcomesOf freshBench cs
-no-other-replies cs rs all = the-replies-are-the-only-ones freshBench cs rs (outcomesOf freshBench cs) all (every-event-has-its-reply cs)
+pub no-other-replies : (sheet : List Line) (cs : List Comes) (rs : List Outcome) → AllByTheTable (freshBench sheet) cs rs → rs ≡ outcomesOf (freshBench sheet) cs
+no-other-replies sheet cs rs all = the-replies-are-the-only-ones (freshBench sheet) cs rs (outcomesOf (freshBench sheet) cs) all (every-event-has-its-reply sheet cs)
 
 -- "After the fifth failed try the till end says Unfinished, never an answer": the table leaves it no other reply
 pub the-fifth-failed-try : (s : Bench) (buffer : List ℕ) (h : till.Happening) (seq code : ℕ) (bytes : List ℕ) (ear : till.Ear) → 210 ≤ length buffer

@@ -12,20 +12,31 @@ use Rattle.wire.specs.declared.Way.the-variants.{ToDevice, ToTill}
 use Rattle.reader.specs.Reading.{Place, outside, nothing, heard, startsAnew, read, run}
 use Rattle.reader.proofs.RoundTrip.{read-what-was-built, parts}
 use Rattle.reader.proofs.History.{built-is-all-that-is-read}
-use Rattle.kinds.specs.declared.Command.the-variants.{Drawer}
+use Rattle.kinds.specs.declared.Command.the-variants.{Sell, Drawer}
 use Rattle.kinds.specs.declared.Parsed.{Parsed}
 use Rattle.kinds.specs.declared.Parsed.the-variants.{Read, Syntax, Unknown}
+use Rattle.kinds.specs.declared.Sale.{Sale}
 use Rattle.kinds.specs.declared.Service.{Service}
 use Rattle.command.specs.Commands.{parsedOf}
+use Rattle.sheet.specs.Searches.{matchOf}
+use Rattle.sheet.specs.declared.Line.{Line}
+use Rattle.sheet.specs.declared.Match.{Match}
+use Rattle.books.specs.Groups.{at}
+use Rattle.rules.specs.declared.views.View.the-variants.{Sells}
+use Rattle.store.specs.Commands.{deedOn}
 use Rattle.store.specs.Store.{Store}
 use Rattle.answers.proofs.Shown.{shown-sendable}
-use Rattle.history.specs.Agrees.{Agrees, toldStore}
+use Rattle.history.specs.Agrees.{Agrees, toldBooks}
 use Rattle.history.specs.Digits.{InDigits, leftOf}
 use Rattle.history.specs.History.{receiptTotal, paidSum, putIn, takenOut}
 use Rattle.history.proofs.Digits.{digits-fit, rest-and-change-fit}
+use Rattle.history.specs.Entries.{entryOf}
+use Rattle.history.specs.TakingBack.{linesIn, worthOf, TookBack}
 use Rattle.history.proofs.Histories.{never-overpaid, agreed-is-told}
+use Rattle.history.proofs.TakingBack.{a-line-off-takes-back-one-sold, the-groups-are-what-stands}
 use Rattle.line.specs.Turns.{State, Session}
-use Rattle.carrying.specs.Carrying.{deedFor, answerTo, carry}
+use Rattle.deeds.specs.declared.Deed.{Deed}
+use Rattle.carrying.specs.Carrying.{searchIn, deedFor, answerTo, carry}
 use Rattle.machine.specs.Device.{storeOf}
 use Rattle.recorder.specs.Recording.{recording}
 use Rattle.till.specs.Turns as turns
@@ -50,76 +61,108 @@ pub what-is-read-was-built : (k : Way) (bytes : List ℕ) (b : ℕ) (m : Message
     → (sendable k m ≡ true) × ((before : List ℕ) × (bytes ++ b ∷ [] ≡ before ++ frame k m))
 what-is-read-was-built = built-is-all-that-is-read
 
--- every answer of a device that was fresh, to whatever can be sent, is an answer that can be sent
-pub every-answer-can-be-sent : (arrived : List LentByte) (m : Message) → sendable ToDevice m ≡ true
-    → sendable ToTill (answerTo (booksAfter arrived) (m .seq) (m .code) (deedFor (booksAfter arrived) (parsedOf (m .code) (m .content)))) ≡ true
-every-answer-can-be-sent arrived m e =
-    let b = booksAfter arrived in
-    let d = deedFor b (parsedOf (m .code) (m .content)) in
-    let before = any-history-reached arrived in
-    let after = deed-stays b (parsedOf (m .code) (m .content)) before in
-    let marks = parts ToDevice m e in
-    shown-sendable (m .seq) (m .code) (d .number) (d .shown) (b .day) (d .books) (marks .seq) (marks .code) (before .eight-sums) (after .eight-sums) (after .receipt .eight-groups)
+-- a fresh device, whatever the sheet of 512 lines or more held that it is lent
+module _ (sheet : List Line) (lines : 512 ≤ length sheet) where
+  -- what it makes of a command, after any bytes
+  abbrev deedTo : List LentByte → Message → Deed
+  deedTo arrived m =
+      let p = parsedOf (m .code) (m .content) in
+      let s = storeAfter sheet arrived in
+      deedFor (s .books) (matchOf (s .sheet) (searchIn (s .books) p)) p
 
--- and a till end that waits for it, wherever its reading stands, says Waiting up to its last byte and then Answered, with its data and status
-pub both-ends-speak-alike : (arrived : List LentByte) (m : Message) → sendable ToDevice m ≡ true
-    → (s : turns.State) (sent : List ℕ) (tries : ℕ) (ear : turns.Ear) → s .pending ≡ turns.waits (m .seq) (m .code) sent tries ear
-    → let a = answerTo (booksAfter arrived) (m .seq) (m .code) (deedFor (booksAfter arrived) (parsedOf (m .code) (m .content))) in
-    let heard-bytes = heardBytes (carry (record { books = booksAfter arrived }) m .answer) in
-    (words (history s heard-bytes) ≡ replicate (length (frame ToTill a) - 1) (Waiting 0) ++ Answered (length (a .content ++ a .status)) ∷ [])
-    × ((till.putsOf (history s heard-bytes) ≡ replicate (length (frame ToTill a) - 1) [] ++ (a .content ++ a .status) ∷ [])
-    × (behind s heard-bytes ≡ record { next = s .next; pending = turns.idle }))
-both-ends-speak-alike arrived m e s sent tries ear waiting =
-    answer-heard s (m .seq) (m .code) sent tries ear waiting
-    (answerTo (booksAfter arrived) (m .seq) (m .code) (deedFor (booksAfter arrived) (parsedOf (m .code) (m .content)))) (every-answer-can-be-sent arrived m e) refl refl
+  -- every answer of a device that was fresh, to whatever can be sent, is an answer that can be sent
+  pub every-answer-can-be-sent : (arrived : List LentByte) (m : Message) → sendable ToDevice m ≡ true
+      → sendable ToTill (answerTo (booksAfter sheet arrived) (m .seq) (m .code) (deedTo arrived m)) ≡ true
+  every-answer-can-be-sent arrived m e =
+      let s = storeAfter sheet arrived in
+      let p = parsedOf (m .code) (m .content) in
+      let d = deedTo arrived m in
+      let before = any-history-reached sheet lines arrived in
+      let after = deed-stays (s .books) (matchOf (s .sheet) (searchIn (s .books) p)) p before in
+      let marks = parts ToDevice m e in
+      shown-sendable (m .seq) (m .code) (d .number) (d .shown) (s .books .day) (d .books) (marks .seq) (marks .code) (before .eight-sums) (after .eight-sums) (after .receipt .eight-groups)
 
--- a recording is a history in which 217 bytes are lent each time: all it gives back and carries out is what the turns do
-pub a-recording-is-its-turns : (bytes : List ℕ)
-    → recording bytes ≡ record { gives = allGiven (turnsOf freshDevice (alwaysLent bytes)); carried = allCarried (turnsOf freshDevice (alwaysLent bytes)); state = deviceAfter freshDevice (alwaysLent bytes) }
-a-recording-is-its-turns bytes = session-turns freshDevice bytes
+  -- and a till end that waits for it, wherever its reading stands, says Waiting up to its last byte and then Answered, with its data and status
+  pub both-ends-speak-alike : (arrived : List LentByte) (m : Message) → sendable ToDevice m ≡ true
+      → (s : turns.State) (sent : List ℕ) (tries : ℕ) (ear : turns.Ear) → s .pending ≡ turns.waits (m .seq) (m .code) sent tries ear
+      → let a = answerTo (booksAfter sheet arrived) (m .seq) (m .code) (deedTo arrived m) in
+      let heard-bytes = heardBytes (carry (storeAfter sheet arrived) m .answer) in
+      (words (history s heard-bytes) ≡ replicate (length (frame ToTill a) - 1) (Waiting 0) ++ Answered (length (a .content ++ a .status)) ∷ [])
+      × ((till.putsOf (history s heard-bytes) ≡ replicate (length (frame ToTill a) - 1) [] ++ (a .content ++ a .status) ∷ [])
+      × (behind s heard-bytes ≡ record { next = s .next; pending = turns.idle }))
+  both-ends-speak-alike arrived m e s sent tries ear waiting =
+      answer-heard s (m .seq) (m .code) sent tries ear waiting (answerTo (booksAfter sheet arrived) (m .seq) (m .code) (deedTo arrived m)) (every-answer-can-be-sent arrived m e) refl refl
 
--- cash, for all bytes that arrive at a fresh device, whatever is lent with each
-pub cash-is-put-in-less-taken-out : (arrived : List LentByte)
-    → (booksAfter arrived .drawer .cash ≡ putIn (entriesOf arrived) - takenOut (entriesOf arrived)) × (takenOut (entriesOf arrived) ≤ putIn (entriesOf arrived))
-cash-is-put-in-less-taken-out arrived = (any-history-agrees arrived .drawer .cash, any-history-agrees arrived .drawer .covered)
+  -- a recording is a history in which 217 bytes and 512 lines are lent each time: all it gives back and carries out is what the turns do
+  pub a-recording-is-its-turns : (bytes : List ℕ)
+      → recording sheet bytes
+      ≡ record {
+        gives = allGiven (turnsOf (freshDevice sheet) (alwaysLent bytes));
+        carried = allCarried (turnsOf (freshDevice sheet) (alwaysLent bytes));
+        state = deviceAfter (freshDevice sheet) (alwaysLent bytes);
+      }
+  a-recording-is-its-turns bytes = session-turns (freshDevice sheet) bytes
 
--- and it can be seen: the Cash field of every answer to a 70 that is done, read back as a number
-pub cash-is-seen : (arrived : List LentByte) (a : LentByte) → let t = turnBy (deviceAfter freshDevice arrived) a in
-    (m : Message) (s : Service) → t .carried ≡ m ∷ [] → parsedOf (m .code) (m .content) ≡ Read (Drawer s) → t .number ≡ 0
-    → cashIn (dataIn (t .gives)) ≡ putIn (entriesOf (arrived ++ a ∷ [])) - takenOut (entriesOf (arrived ++ a ∷ []))
-cash-is-seen arrived a m s one is70 zero =
-    cash-in-answer (deviceAfter freshDevice arrived) (any-history-reached arrived) m s is70 a one zero
-    ∙ ap (λ (z : State Store). z .store .books .drawer .cash) (sym (device-after-one freshDevice arrived a))
-    ∙ any-history-agrees (arrived ++ a ∷ []) .drawer .cash
+  -- cash, for all bytes that arrive at a fresh device, whatever is lent with each
+  pub cash-is-put-in-less-taken-out : (arrived : List LentByte)
+      → (booksAfter sheet arrived .drawer .cash ≡ putIn (entriesOf sheet arrived) - takenOut (entriesOf sheet arrived))
+      × (takenOut (entriesOf sheet arrived) ≤ putIn (entriesOf sheet arrived))
+  cash-is-put-in-less-taken-out arrived =
+      let d = any-history-agrees sheet lines arrived .books .drawer in
+      (d .cash, d .covered)
 
--- and every other figure (PROTOCOL 8.3): the open receipt, its lines, whether a 53 was done and whether it is paid in full, day sums, registers, service sums,
--- counters, closings and FM
-pub every-figure-follows : (arrived : List LentByte) → Agrees (entriesOf arrived) (storeAfter arrived)
-every-figure-follows = any-history-agrees
+  -- and it can be seen: the Cash field of every answer to a 70 that is done, read back as a number
+  pub cash-is-seen : (arrived : List LentByte) (a : LentByte) → let t = turnBy (deviceAfter (freshDevice sheet) arrived) a in
+      (m : Message) (s : Service) → t .carried ≡ m ∷ [] → parsedOf (m .code) (m .content) ≡ Read (Drawer s) → t .number ≡ 0
+      → cashIn (dataIn (t .gives)) ≡ putIn (entriesOf sheet (arrived ++ a ∷ [])) - takenOut (entriesOf sheet (arrived ++ a ∷ []))
+  cash-is-seen arrived a m s one is70 zero =
+      cash-in-answer (deviceAfter (freshDevice sheet) arrived) (any-history-reached sheet lines arrived) m s is70 a one zero
+      ∙ ap (λ (z : State Store). z .store .books .drawer .cash) (sym (device-after-one (freshDevice sheet) arrived a))
+      ∙ any-history-agrees sheet lines (arrived ++ a ∷ []) .books .drawer .cash
 
--- what is due is never cut off at zero
-pub no-more-paid-than-due : (arrived : List LentByte) → paidSum (entriesOf arrived) ≤ receiptTotal (entriesOf arrived)
-no-more-paid-than-due arrived = never-overpaid (entriesOf arrived) (storeAfter arrived) (any-history-reached arrived) (any-history-agrees arrived)
+  -- and every other figure (PROTOCOL 8.3): the open receipt, its lines, whether a 53 was done and whether it is paid in full, day sums, registers, service sums,
+  -- counters, closings and FM; and the sheet has the lines of the open receipt
+  pub every-figure-follows : (arrived : List LentByte) → Agrees (entriesOf sheet arrived) (storeAfter sheet arrived)
+  every-figure-follows = any-history-agrees sheet lines
 
--- so the entries alone tell all that the device remembers, no field left out
-pub the-entries-tell-the-books : (arrived : List LentByte) → storeAfter arrived ≡ toldStore (entriesOf arrived)
-the-entries-tell-the-books arrived = agreed-is-told (entriesOf arrived) (storeAfter arrived) (any-history-reached arrived) (any-history-agrees arrived)
+  -- what is due is never cut off at zero
+  pub no-more-paid-than-due : (arrived : List LentByte) → paidSum (entriesOf sheet arrived) ≤ receiptTotal (entriesOf sheet arrived)
+  no-more-paid-than-due arrived = never-overpaid (entriesOf sheet arrived) (storeAfter sheet arrived) (any-history-reached sheet lines arrived) (any-history-agrees sheet lines arrived)
 
-pub and-those-of-a-recording : (bytes : List ℕ) → recording bytes .state .store ≡ toldStore (entriesOf (alwaysLent bytes))
-and-those-of-a-recording bytes = ap (λ (z : Session Store). z .state .store) (a-recording-is-its-turns bytes) ∙ the-entries-tell-the-books (alwaysLent bytes)
+  -- so the entries alone tell the books, no field left out
+  pub the-entries-tell-the-books : (arrived : List LentByte) → booksAfter sheet arrived ≡ toldBooks (entriesOf sheet arrived)
+  the-entries-tell-the-books arrived = agreed-is-told (entriesOf sheet arrived) (storeAfter sheet arrived) (any-history-reached sheet lines arrived) (any-history-agrees sheet lines arrived)
 
--- and those behind all calls of the running code, in whatever parts and with whatever buffers it hears the bytes
-pub and-those-of-the-calls : (f g : Machines) → Fresh f → (bytes gives : List ℕ) → HeardThrough f bytes gives g → storeOf (g .device) ≡ toldStore (entriesOf (alwaysLent bytes))
-and-those-of-the-calls f g fresh bytes gives h = the-calls-are-the-recording f g fresh bytes gives h .1 ∙ and-those-of-a-recording bytes
+  pub and-those-of-a-recording : (bytes : List ℕ) → recording sheet bytes .state .store .books ≡ toldBooks (entriesOf sheet (alwaysLent bytes))
+  and-those-of-a-recording bytes =
+      ap (λ (z : Session Store). z .state .store .books) (a-recording-is-its-turns bytes) ∙ the-entries-tell-the-books (alwaysLent bytes)
 
--- "No field shown ever passes its digits."
-pub every-field-fits : (arrived : List LentByte) → InDigits (booksAfter arrived)
-every-field-fits arrived = digits-fit (booksAfter arrived) (any-history-reached arrived)
+  -- request 2026-01: the eight groups of the open receipt are its lines that stand, told from the entries
+  pub the-groups-are-the-lines-that-stand : (arrived : List LentByte) (g : ℕ) → g < 8
+      → at (booksAfter sheet arrived .receipt .groups) g ≡ worthOf g (linesIn (entriesOf sheet arrived))
+  the-groups-are-the-lines-that-stand arrived = the-groups-are-what-stands (entriesOf sheet arrived) (storeAfter sheet arrived) (any-history-agrees sheet lines arrived)
 
-pub rest-and-change-fit-too : (arrived : List LentByte) (code : ℕ) (content : List ℕ) → leftOf (deedFor (booksAfter arrived) (parsedOf code content) .shown) < 10 ^ 10
-rest-and-change-fit-too arrived code content = go (parsedOf code content) (parsed-right code content)
-  where
-    go : (x : Parsed) → Right x → leftOf (deedFor (booksAfter arrived) x .shown) < 10 ^ 10
-    go (Read c) (is-read r) = rest-and-change-fit (booksAfter arrived) c (any-history-reached arrived) r
-    go Syntax syntax = omega arith
-    go Unknown no-kind = omega arith
+  -- and whatever line is done with `-` takes back one that was really sold on this receipt, its finished amount, once
+  pub a-line-off-was-really-sold : (arrived : List LentByte) (x : Sale) → let s = storeAfter sheet arrived in
+      deedOn s (Sells x) .number ≡ 0 → x .minus ≡ true
+      → TookBack x (entriesOf sheet arrived) (entryOf (s .books) (Sell x) (deedOn s (Sells x)) ∷ entriesOf sheet arrived)
+  a-line-off-was-really-sold arrived x done minus =
+      a-line-off-takes-back-one-sold (entriesOf sheet arrived) (storeAfter sheet arrived) x (any-history-reached sheet lines arrived) (any-history-agrees sheet lines arrived) done minus
+
+  -- "No field shown ever passes its digits."
+  pub every-field-fits : (arrived : List LentByte) → InDigits (booksAfter sheet arrived)
+  every-field-fits arrived = digits-fit (booksAfter sheet arrived) (any-history-reached sheet lines arrived)
+
+  pub rest-and-change-fit-too : (arrived : List LentByte) (code : ℕ) (content : List ℕ) (m : Match) → leftOf (deedFor (booksAfter sheet arrived) m (parsedOf code content) .shown) < 10 ^ 10
+  rest-and-change-fit-too arrived code content m = go (parsedOf code content) (parsed-right code content)
+    where
+      go : (x : Parsed) → Right x → leftOf (deedFor (booksAfter sheet arrived) m x .shown) < 10 ^ 10
+      go (Read c) (is-read r) = rest-and-change-fit (booksAfter sheet arrived) m c (any-history-reached sheet lines arrived) r
+      go Syntax syntax = omega arith
+      go Unknown no-kind = omega arith
+
+-- and the books behind all calls of the running code, in whatever parts and with whatever buffers it hears the bytes
+pub and-those-of-the-calls : (f g : Machines) → Fresh f → (bytes gives : List ℕ) → HeardThrough f bytes gives g
+    → storeOf (g .device) .books ≡ toldBooks (entriesOf (f .device .sheet) (alwaysLent bytes))
+and-those-of-the-calls f g fresh bytes gives h =
+    ap (λ (z : Store). z .books) (the-calls-are-the-recording f g fresh bytes gives h .1) ∙ and-those-of-a-recording (f .device .sheet) (fresh .sheet) bytes

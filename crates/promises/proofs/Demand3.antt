@@ -16,6 +16,7 @@ use Rattle.wire.specs.Frame.{Message, frame, sendable}
 use Rattle.wire.specs.declared.Way.the-variants.{ToDevice}
 use Rattle.basics.proofs.Tests.{both, and-true}
 use Rattle.reader.specs.Reading.{outside, brokenFrame}
+use Rattle.sheet.specs.declared.Line.{Line}
 use Rattle.store.specs.Store.{Store, freshStore}
 use Rattle.line.specs.Turns.{Carried, Before, switchedOn, session}
 use Rattle.tries.specs.Tries.{Arrival, cut, mayArrive, arriving, Begun, clear, begun, brings}
@@ -35,11 +36,12 @@ use Rattle.promises.specs.Coded.{Machines, Fresh, HeardThrough}
 use Rattle.promises.specs.Demand3.{eachArrives, allArrive, eachOneWhole, framesArriving, bytesArriving, takenCommands, overTheLine}
 use Rattle.promises.proofs.Through.{the-calls-are-the-recording}
 
--- the list is carried out, each command once and in order, and the books are those of carrying it out by demand 2's rules (`carry`)
-pub carries-out-the-list : (cs : List Sent) → delivery cs ≡ true
-    → (recording (allArriving cs) .carried ≡ commands cs)
-    × (recording (allArriving cs) .state .store ≡ carryAll carry freshStore (commands cs))
-carries-out-the-list cs e = carries-out-that-very-list carry cs e freshStore
+-- the list is carried out, each command once and in order, and books and sheet are those of carrying it out by demand 2's rules (`carry`), whatever the
+-- sheet held that the fresh device is lent
+pub carries-out-the-list : (sheet : List Line) (cs : List Sent) → delivery cs ≡ true
+    → (recording sheet (allArriving cs) .carried ≡ commands cs)
+    × (recording sheet (allArriving cs) .state .store ≡ carryAll carry (freshStore sheet) (commands cs))
+carries-out-the-list sheet cs e = carries-out-that-very-list carry cs e (freshStore sheet)
 
 -- the same of a device that remembers anything and has no frame before
 pub carries-out-the-list-from : (store : Store) (cs : List Sent) → delivery cs ≡ true
@@ -75,17 +77,17 @@ different-lists-differ = same-bytes-same-list
 -- the running code: whatever buffers are lent to `device::hear`, and in whatever parts the bytes are heard, as `printer` hears them: the books behind the
 -- calls are those of the list, and all that was given back is what these theorems speak of
 pub the-calls-carry-out-the-list : (f g : Machines) → Fresh f → (cs : List Sent) → delivery cs ≡ true → (gives : List ℕ) → HeardThrough f (allArriving cs) gives g
-    → (storeOf (g .device) ≡ carryAll carry freshStore (commands cs)) × (gives ≡ recording (allArriving cs) .gives)
+    → (storeOf (g .device) ≡ carryAll carry (freshStore (f .device .sheet)) (commands cs)) × (gives ≡ recording (f .device .sheet) (allArriving cs) .gives)
 the-calls-carry-out-the-list f g fresh cs e gives h =
     let same = the-calls-are-the-recording f g fresh (allArriving cs) gives h in
-    (same .1 ∙ carries-out-the-list cs e .1, same .0)
+    (same .1 ∙ carries-out-the-list (f .device .sheet) cs e .1, same .0)
 
 -- and `recorder::hear_all` promises `toldIn` of the recording, so that the list it lists and the books it hands back are these
-pub the-code-tells-the-list : (cs : List Sent) → delivery cs ≡ true → (out orders : List ℕ)
-    → (toldIn out orders (recording (allArriving cs)) .recorded .books ≡ carryAll carry freshStore (commands cs) .books)
-    × (toldIn out orders (recording (allArriving cs)) .orders ≡ sets orders 0 (listing (commands cs)))
-the-code-tells-the-list cs e out orders =
-    let both = carries-out-the-list cs e in
+pub the-code-tells-the-list : (sheet : List Line) (cs : List Sent) → delivery cs ≡ true → (out orders : List ℕ)
+    → (toldIn out orders (recording sheet (allArriving cs)) .recorded .books ≡ carryAll carry (freshStore sheet) (commands cs) .books)
+    × (toldIn out orders (recording sheet (allArriving cs)) .orders ≡ sets orders 0 (listing (commands cs)))
+the-code-tells-the-list sheet cs e out orders =
+    let both = carries-out-the-list sheet cs e in
     (ap (λ (z : Store). z .books) (both .1), ap (λ z. sets orders 0 (listing z)) (both .0))
 
 -- at most once, without "at least one whole": whatever tries arrive, and in whatever of the ways, what is carried out is what is heard, told from the tries
@@ -162,41 +164,41 @@ crosses (h ∷ hs) place p (ways ∷ rest) e =
 
 -- whatever happens at a fresh till end, and whatever the line does to each frame that it hands out, at least one of each command arriving whole: the device
 -- carries out the commands that the till end took, each once and in order
-pub the-till-s-commands-are-carried-out : (ls : List LentEvent) (ways : List (List Arrival)) → allArrive (handedIn ls) ways ≡ true → eachOneWhole ways ≡ true
+pub the-till-s-commands-are-carried-out : (sheet : List Line) (ls : List LentEvent) (ways : List (List Arrival)) → allArrive (handedIn ls) ways ≡ true → eachOneWhole ways ≡ true
     → (delivery (overTheLine (handedIn ls) ways) ≡ true)
-    × (recording (bytesArriving (handedIn ls) ways) .carried ≡ takenCommands (handedIn ls))
-    × (recording (bytesArriving (handedIn ls) ways) .state .store ≡ carryAll carry freshStore (takenCommands (handedIn ls)))
-the-till-s-commands-are-carried-out ls ways e w =
+    × (recording sheet (bytesArriving (handedIn ls) ways) .carried ≡ takenCommands (handedIn ls))
+    × (recording sheet (bytesArriving (handedIn ls) ways) .state .store ≡ carryAll carry (freshStore sheet) (takenCommands (handedIn ls)))
+the-till-s-commands-are-carried-out sheet ls ways e w =
     let x = crosses (handedIn ls) 0 (frames-are-tries ls) ways e in
     let d = x .is-delivery w in
-    let all-done = carries-out-the-list (overTheLine (handedIn ls) ways) d in (
+    let all-done = carries-out-the-list sheet (overTheLine (handedIn ls) ways) d in (
       d,
-      ap (λ bytes. recording bytes .carried) (x .same-bytes) ∙ all-done .0 ∙ x .same-commands,
-      ap (λ bytes. recording bytes .state .store) (x .same-bytes) ∙ all-done .1 ∙ ap (carryAll carry freshStore) (x .same-commands),
+      ap (λ bytes. recording sheet bytes .carried) (x .same-bytes) ∙ all-done .0 ∙ x .same-commands,
+      ap (λ bytes. recording sheet bytes .state .store) (x .same-bytes) ∙ all-done .1 ∙ ap (carryAll carry (freshStore sheet)) (x .same-commands),
     )
 
 -- and each at most once and in order, if whole ones are missing
-pub the-till-s-commands-at-most-once : (ls : List LentEvent) (ways : List (List Arrival)) → allArrive (handedIn ls) ways ≡ true
+pub the-till-s-commands-at-most-once : (sheet : List Line) (ls : List LentEvent) (ways : List (List Arrival)) → allArrive (handedIn ls) ways ≡ true
     → let heard-of = withoutRepeats (allHeard clear (overTheLine (handedIn ls) ways)) in
-    (recording (bytesArriving (handedIn ls) ways) .carried ≡ heard-of)
-    × (recording (bytesArriving (handedIn ls) ways) .state .store ≡ carryAll carry freshStore heard-of)
-    × Sublist (recording (bytesArriving (handedIn ls) ways) .carried) (takenCommands (handedIn ls))
-the-till-s-commands-at-most-once ls ways e =
+    (recording sheet (bytesArriving (handedIn ls) ways) .carried ≡ heard-of)
+    × (recording sheet (bytesArriving (handedIn ls) ways) .state .store ≡ carryAll carry (freshStore sheet) heard-of)
+    × Sublist (recording sheet (bytesArriving (handedIn ls) ways) .carried) (takenCommands (handedIn ls))
+the-till-s-commands-at-most-once sheet ls ways e =
     let x = crosses (handedIn ls) 0 (frames-are-tries ls) ways e in
     let cs = overTheLine (handedIn ls) ways in
-    let heard-so = carries-out-what-is-heard carry cs (x .may-come) freshStore in (
-      ap (λ bytes. recording bytes .carried) (x .same-bytes) ∙ heard-so .0,
-      ap (λ bytes. recording bytes .state .store) (x .same-bytes) ∙ heard-so .1,
-      subst (λ ms. Sublist (recording (bytesArriving (handedIn ls) ways) .carried) ms) (x .same-commands)
-          (subst (λ bytes. Sublist (recording bytes .carried) (commands cs)) (sym (x .same-bytes)) (carries-out-a-part carry cs (x .may-come) freshStore)),
+    let heard-so = carries-out-what-is-heard carry cs (x .may-come) (freshStore sheet) in (
+      ap (λ bytes. recording sheet bytes .carried) (x .same-bytes) ∙ heard-so .0,
+      ap (λ bytes. recording sheet bytes .state .store) (x .same-bytes) ∙ heard-so .1,
+      subst (λ ms. Sublist (recording sheet (bytesArriving (handedIn ls) ways) .carried) ms) (x .same-commands)
+          (subst (λ bytes. Sublist (recording sheet bytes .carried) (commands cs)) (sym (x .same-bytes)) (carries-out-a-part carry cs (x .may-come) (freshStore sheet))),
     )
 
 -- exactly those of which a frame arrived whole, where no cut one lacks only its last byte and these neighbours differ: the till end's SEQ comes again
 -- after 224 commands
-pub the-till-s-commands-that-arrived : (ls : List LentEvent) (ways : List (List Arrival)) → allArrive (handedIn ls) ways ≡ true
+pub the-till-s-commands-that-arrived : (sheet : List Line) (ls : List LentEvent) (ways : List (List Arrival)) → allArrive (handedIn ls) ways ≡ true
     → noneLacksLast (overTheLine (handedIn ls) ways) ≡ true → neighboursDiffer (arrivedWhole (overTheLine (handedIn ls) ways)) ≡ true
-    → recording (bytesArriving (handedIn ls) ways) .carried ≡ commands (arrivedWhole (overTheLine (handedIn ls) ways))
-the-till-s-commands-that-arrived ls ways e f d =
+    → recording sheet (bytesArriving (handedIn ls) ways) .carried ≡ commands (arrivedWhole (overTheLine (handedIn ls) ways))
+the-till-s-commands-that-arrived sheet ls ways e f d =
     let x = crosses (handedIn ls) 0 (frames-are-tries ls) ways e in
-    ap (λ bytes. recording bytes .carried) (x .same-bytes)
-    ∙ carries-out-those-that-arrived (overTheLine (handedIn ls) ways) (x .may-come) f d freshStore .0
+    ap (λ bytes. recording sheet bytes .carried) (x .same-bytes)
+    ∙ carries-out-those-that-arrived (overTheLine (handedIn ls) ways) (x .may-come) f d (freshStore sheet) .0

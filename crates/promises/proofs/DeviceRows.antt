@@ -7,33 +7,41 @@ use Prim.Native.Nat.{ℕ}
 use Rattle.wire.specs.Frame.{Message}
 use Rattle.wire.specs.declared.Way.the-variants.{ToDevice}
 use Rattle.reader.specs.Reading.{Place, Event, nothing, brokenFrame, heard, read}
-use Rattle.books.specs.declared.Books.{Books}
 use Rattle.kinds.specs.declared.Command as kinds
 use Rattle.kinds.specs.declared.Parsed.{Parsed}
 use Rattle.kinds.specs.declared.Parsed.the-variants.{Read, Syntax, Unknown}
 use Rattle.command.specs.Commands.{parsedOf}
-use Rattle.rules.specs.Rules.{three, four, effect, shows}
-use Rattle.deeds.specs.Deeds.{refusedWith, done}
+use Rattle.sheet.specs.Searches.{placeOf, matchOf}
+use Rattle.deeds.specs.Deeds.{refusedWith, doneWith}
 use Rattle.deeds.specs.declared.Deed.{Deed}
 use Rattle.line.specs.Turns.{was, State, Carried, Turn, repeats, lastAnswer, onEvent, turn}
-use Rattle.carrying.specs.Carrying.{deedFor, carriedAs, carry}
+use Rattle.carrying.specs.Carrying.{searchIn, deedFor, carriedAs, carry}
 use Rattle.store.specs.Store.{Store}
+use Rattle.store.specs.Commands.{matchFor, ruleFor}
+use Rattle.rules.specs.Views.{viewOf}
 use Rattle.machine.specs.Device.{Lent, enough, lentTurn}
-use Rattle.promises.specs.AtDevice.{FromDevice, reads, NewFrame, NewCommand, ByDevice, row-0-taken, row-0-done, row-1, row-2, row-3, row-4, row-5, row-6, row-7}
+use Rattle.promises.specs.AtDevice.{FromDevice, reads, three, four, NewFrame, NewCommand, ByDevice, row-0-taken, row-0-done, row-1, row-2, row-3, row-4, row-5, row-6, row-7}
 use Rattle.promises.specs.Ends.{ofDevice}
 use Rattle.promises.proofs.Verdicts.{Right, syntax, no-kind, is-read, parsed-right}
 
--- what a whole frame asks of the books, by the reasons for 3 and for 4
-abbrev byThese : Books → kinds.Command → Bool → Bool → Deed
-byThese b c for3 for4 = cond for3 (refusedWith 3 b) (cond for4 (refusedWith 4 b) (done (effect b c) (shows b c)))
+-- what a whole frame asks of books and sheet, by the reasons for 3 and for 4
+abbrev byThese : Store → kinds.Command → Bool → Bool → Deed
+byThese s c for3 for4 =
+    let r = ruleFor s c in
+    cond for3 (refusedWith 3 (s .books)) (cond for4 (refusedWith 4 (s .books)) (doneWith (r .after) (r .shows) (r .note)))
 
-abbrev pub tableDeed : Books → Parsed → Deed
-tableDeed b (Read c) = byThese b c (three b c) (four b c)
-tableDeed b Syntax = refusedWith 1 b
-tableDeed b Unknown = refusedWith 2 b
+abbrev pub tableDeed : Store → Parsed → Deed
+tableDeed s (Read c) = byThese s c (three s c) (four s c)
+tableDeed s Syntax = refusedWith 1 (s .books)
+tableDeed s Unknown = refusedWith 2 (s .books)
+
+abbrev pub tablePlace : Store → Parsed → ℕ
+tablePlace s p = placeOf (s .sheet) (searchIn (s .books) p)
 
 abbrev pub tableCarry : Store → Message → Carried Store
-tableCarry s m = carriedAs s (m .seq) (m .code) (tableDeed (s .books) (parsedOf (m .code) (m .content)))
+tableCarry s m =
+    let p = parsedOf (m .code) (m .content) in
+    carriedAs s (m .seq) (m .code) (tablePlace s p) (tableDeed s p)
 
 module _ (s : State Store) where
   -- turns, with all that decides them as arguments
@@ -47,11 +55,11 @@ module _ (s : State Store) where
   ordered next m k =
       record { number = k .number; gives = k .lead ++ k .answer; carried = m ∷ []; state = record { place = next; before = was (m .seq) (m .code) (k .answer); store = k .store } }
 
-  abbrev pub order : Place → Message → Deed → Turn Store
-  order next m d = ordered next m (carriedAs (s .store) (m .seq) (m .code) d)
+  abbrev pub order : Place → Message → Parsed → Deed → Turn Store
+  order next m p d = ordered next m (carriedAs (s .store) (m .seq) (m .code) (tablePlace (s .store) p) d)
 
   abbrev reasoned : kinds.Command → Bool → Bool → Deed
-  reasoned c for3 for4 = byThese (s .store .books) c for3 for4
+  reasoned c for3 for4 = byThese (s .store) c for3 for4
 
   abbrev pub tableTurn : Lent → ℕ → Turn Store
   tableTurn lent byte = cond (enough lent) (turn tableCarry s byte) short7
@@ -71,7 +79,7 @@ module _ (s : State Store) where
     atRepeat m repeat = ofDevice lent (cond repeat (again next) (ordered next m (tableCarry (s .store) m)))
 
     abbrev atKind : Message → Parsed → FromDevice
-    atKind m p = ofDevice lent (order next m (tableDeed (s .store .books) p))
+    atKind m p = ofDevice lent (order next m p (tableDeed (s .store) p))
 
     long : enough lent ≡ true → (e : Event) → reads s byte .event ≡ e → atLength (enough lent) ≡ atEvent e
     long room e f = ap atLength room ∙ ap atEvent f
@@ -79,36 +87,36 @@ module _ (s : State Store) where
     framed : (m : Message) → NewFrame s lent byte m → (p : Parsed) → parsedOf (m .code) (m .content) ≡ p → atLength (enough lent) ≡ atKind m p
     framed m n p f = long (n .room) (heard m) (n .whole) ∙ ap (atRepeat m) (n .new) ∙ ap (atKind m) f
 
-    commanded : (m : Message) (c : kinds.Command) → NewCommand s lent byte m c → (for3 for4 : Bool) → three (s .store .books) c ≡ for3 → four (s .store .books) c ≡ for4
-        → atLength (enough lent) ≡ ofDevice lent (order next m (reasoned c for3 for4))
+    commanded : (m : Message) (c : kinds.Command) → NewCommand s lent byte m c → (for3 for4 : Bool) → three (s .store) c ≡ for3 → four (s .store) c ≡ for4
+        → atLength (enough lent) ≡ ofDevice lent (order next m (Read c) (reasoned c for3 for4))
     commanded m c n for3 for4 e3 e4 =
         framed m (n .frame) (Read c) (n .kind)
-        ∙ ap (λ z. ofDevice lent (order next m (reasoned c z (four (s .store .books) c)))) e3
-        ∙ ap (λ z. ofDevice lent (order next m (reasoned c for3 z))) e4
+        ∙ ap (λ z. ofDevice lent (order next m (Read c) (reasoned c z (four (s .store) c)))) e3
+        ∙ ap (λ z. ofDevice lent (order next m (Read c) (reasoned c for3 z))) e4
 
     pub only-row : (r : FromDevice) → ByDevice s lent byte r → r ≡ ofDevice lent (tableTurn lent byte)
     only-row r (row-0-taken room e) = sym (long room nothing e)
     only-row r (row-0-done m c n e3 e4) = sym (commanded m c n false false e3 e4)
     only-row r (row-1 m n e) = sym (framed m n Syntax e)
     only-row r (row-2 m n e) = sym (framed m n Unknown e)
-    only-row r (row-3 m c n e3) = sym (commanded m c n true (four (s .store .books) c) e3 refl)
+    only-row r (row-3 m c n e3) = sym (commanded m c n true (four (s .store) c) e3 refl)
     only-row r (row-4 m c n e3 e4) = sym (commanded m c n false true e3 e4)
     only-row r (row-5 room e) = sym (long room brokenFrame e)
     only-row r (row-6 m room e f) = sym (long room (heard m) e ∙ ap (atRepeat m) f)
     only-row r (row-7 short) = sym (ap atLength short)
 
     -- and every byte has its row
-    by-reasons : (m : Message) (c : kinds.Command) → NewCommand s lent byte m c → (for3 for4 : Bool) → three (s .store .books) c ≡ for3 → four (s .store .books) c ≡ for4
-        → ByDevice s lent byte (ofDevice lent (order next m (reasoned c for3 for4)))
+    by-reasons : (m : Message) (c : kinds.Command) → NewCommand s lent byte m c → (for3 for4 : Bool) → three (s .store) c ≡ for3 → four (s .store) c ≡ for4
+        → ByDevice s lent byte (ofDevice lent (order next m (Read c) (reasoned c for3 for4)))
     by-reasons m c n true for4 e3 e4 = row-3 m c n e3
     by-reasons m c n false true e3 e4 = row-4 m c n e3 e4
     by-reasons m c n false false e3 e4 = row-0-done m c n e3 e4
 
     by-kind : (m : Message) → NewFrame s lent byte m → (p : Parsed) → parsedOf (m .code) (m .content) ≡ p
-        → ByDevice s lent byte (ofDevice lent (order next m (tableDeed (s .store .books) p)))
+        → ByDevice s lent byte (ofDevice lent (order next m p (tableDeed (s .store) p)))
     by-kind m n Syntax e = row-1 m n e
     by-kind m n Unknown e = row-2 m n e
-    by-kind m n (Read c) e = by-reasons m c (record { frame = n; kind = e }) (three (s .store .books) c) (four (s .store .books) c) refl refl
+    by-kind m n (Read c) e = by-reasons m c (record { frame = n; kind = e }) (three (s .store) c) (four (s .store) c) refl refl
 
     by-event : enough lent ≡ true → (e : Event) → reads s byte .event ≡ e → ByDevice s lent byte (ofDevice lent (onEvent tableCarry s next e))
     by-event room nothing e = row-0-taken room e
@@ -127,13 +135,16 @@ module _ (s : State Store) where
         go false e = row-7 e
 
 -- the device's own turn is the same
-carried-by : (b : Books) (p : Parsed) → Right p → deedFor b p ≡ tableDeed b p
-carried-by b Syntax syntax = refl
-carried-by b Unknown no-kind = refl
-carried-by b (Read c) (is-read r) = ap (λ z. cond z (refusedWith 1 b) (byThese b c (three b c) (four b c))) (r .one b)
+carried-by : (s : Store) (p : Parsed) → Right p → deedFor (s .books) (matchOf (s .sheet) (searchIn (s .books) p)) p ≡ tableDeed s p
+carried-by s Syntax syntax = refl
+carried-by s Unknown no-kind = refl
+carried-by s (Read c) (is-read r) =
+    ap (λ z. cond z (refusedWith 1 (s .books)) (byThese s c (three s c) (four s c))) (r .one (s .books) (matchFor s (viewOf c)))
 
 same-carry : (s : Store) (m : Message) → carry s m ≡ tableCarry s m
-same-carry s m = ap (carriedAs s (m .seq) (m .code)) (carried-by (s .books) (parsedOf (m .code) (m .content)) (parsed-right (m .code) (m .content)))
+same-carry s m =
+    let p = parsedOf (m .code) (m .content) in
+    ap (carriedAs s (m .seq) (m .code) (tablePlace s p)) (carried-by s p (parsed-right (m .code) (m .content)))
 
 module _ (s : State Store) where
   same-event : (next : Place) (x : Event) → onEvent carry s next x ≡ onEvent tableCarry s next x

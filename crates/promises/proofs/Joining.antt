@@ -2,7 +2,7 @@
 use mathlib.Core.Path.{_≡_, refl, sym, ap, _∙_, subst}
 use mathlib.Core.Bool.{Bool, true, false, cond}
 use mathlib.Core.List.{List, [], _∷_, _++_, append-assoc}
-use Prim.Native.Nat.{ℕ, _+_, _-_}
+use Prim.Native.Nat.{ℕ, _+_, _-_, _≤_}
 use native.Mathlib.Omega.{arith}
 use lib.ListN.{length, take, drop, length-append}
 use lib.Seq.{take-at}
@@ -17,18 +17,21 @@ use Rattle.kinds.specs.declared.Parsed.{Parsed}
 use Rattle.kinds.specs.declared.Parsed.the-variants.{Read, Syntax, Unknown}
 use Rattle.kinds.specs.declared.Service.{Service}
 use Rattle.command.specs.Commands.{parsedOf}
+use Rattle.sheet.specs.Searches.{placeOf, matchOf}
+use Rattle.sheet.specs.declared.Line.{Line}
 use Rattle.books.specs.declared.Books.{Books}
 use Rattle.books.specs.declared.Shown.{Shown}
 use Rattle.books.specs.declared.Shown.the-variants as shown
 use Rattle.answers.specs.Contents.{commaEach, contentOf}
 use Rattle.answers.specs.Status.{statusOf}
 use Rattle.answers.proofs.Shown.{field-shows}
-use Rattle.deeds.specs.Deeds.{carriedOut}
 use Rattle.deeds.specs.declared.Deed.{Deed}
 use Rattle.line.specs.Turns.{was, State, Turn, Session, repeats, onEvent, turn, session}
 use Rattle.store.specs.Store.{Store}
+use Rattle.store.specs.Commands.{deedOn, leftBy, leftOn}
+use Rattle.rules.specs.Views.{viewOf}
 use Rattle.machine.specs.Device.{enough}
-use Rattle.carrying.specs.Carrying.{deedFor, answerTo, carry}
+use Rattle.carrying.specs.Carrying.{searchIn, deedFor, answerTo, carry}
 use Rattle.history.specs.Agrees.{Agrees}
 use Rattle.history.specs.Entries.{Entry, entryOf}
 use Rattle.history.specs.Reached.{Reached}
@@ -66,16 +69,22 @@ told-as-done b seq code c d =
 
 -- the three ways of a turn: nothing carried out, a repeat, and a frame read in some way and carried out
 module _ (s : State Store) (next : Place) (m : Message) where
+  abbrev deedAs : Parsed → Deed
+  deedAs x = deedFor (s .store .books) (matchOf (s .store .sheet) (searchIn (s .store .books) x)) x
+
+  abbrev storeAs : Parsed → Store
+  storeAs x = leftBy (s .store) (placeOf (s .store .sheet) (searchIn (s .store .books) x)) (deedAs x)
+
   abbrev answerAs : Parsed → List ℕ
-  answerAs x = frame way.ToTill (answerTo (s .store .books) (m .seq) (m .code) (deedFor (s .store .books) x))
+  answerAs x = frame way.ToTill (answerTo (s .store .books) (m .seq) (m .code) (deedAs x))
 
   abbrev orderAs : Parsed → Turn Store
   orderAs x =
       record {
-        number = deedFor (s .store .books) x .number;
+        number = deedAs x .number;
         gives = answerAs x;
         carried = m ∷ [];
-        state = record { place = next; before = was (m .seq) (m .code) (answerAs x); store = record { books = deedFor (s .store .books) x .books } };
+        state = record { place = next; before = was (m .seq) (m .code) (answerAs x); store = storeAs x };
       }
 
   abbrev order : Turn Store
@@ -104,9 +113,9 @@ module _ (es : List Entry) (s : State Store) (r : Reached (s .store .books)) (h 
   abbrev Stays : Turn Store → Type 0
   Stays t = Reached (t .state .store .books) × Agrees (withTurn t (t .carried) es) (t .state .store)
 
-  read-agrees : (next : Place) (m : Message) (x : Parsed) → Right x → Agrees (withRead (orderAs s next m x) x es) (record { books = deedFor (s .store .books) x .books })
+  read-agrees : (next : Place) (m : Message) (x : Parsed) → Right x → Agrees (withRead (orderAs s next m x) x es) (storeAs s next m x)
   read-agrees next m (Read c) (is-read k) =
-      subst (λ e. Agrees (e ∷ es) (record { books = carriedOut (s .store .books) c .books })) (sym (told-as-done (s .store .books) (m .seq) (m .code) c (carriedOut (s .store .books) c)))
+      subst (λ e. Agrees (e ∷ es) (leftOn (s .store) (viewOf c))) (sym (told-as-done (s .store .books) (m .seq) (m .code) c (deedOn (s .store) (viewOf c))))
       (agreement-stays es (s .store) c r k h)
   read-agrees next m Syntax syntax = h
   read-agrees next m Unknown no-kind = h
@@ -116,7 +125,7 @@ module _ (es : List Entry) (s : State Store) (r : Reached (s .store .books)) (h 
       every-turn Stays s quiet
       (λ next m.
       let x = parsedOf (m .code) (m .content) in
-      (deed-stays (s .store .books) x r, read-agrees next m x (parsed-right (m .code) (m .content))))
+      (deed-stays (s .store .books) (matchOf (s .store .sheet) (searchIn (s .store .books) x)) x r, read-agrees next m x (parsed-right (m .code) (m .content))))
     where
       quiet : (t : Turn Store) → t .carried ≡ [] → t .state .store ≡ s .store → Stays t
       quiet t none same = (subst (λ (z : Store). Reached (z .books)) (sym same) r, subst (λ ms. Agrees (withTurn t ms es) (t .state .store)) (sym none) (subst (Agrees es) (sym same) h))
@@ -128,11 +137,12 @@ history-stays es s (a ∷ more) r h =
     let now = turn-stays es s r h a in
     history-stays (withTurn (turnBy s a) (turnBy s a .carried) es) (turnBy s a .state) more (now .0) (now .1)
 
-pub any-history-reached : (arrived : List LentByte) → Reached (booksAfter arrived)
-any-history-reached arrived = history-stays [] freshDevice arrived fresh-reached fresh-agrees .0
+module _ (sheet : List Line) (room : 512 ≤ length sheet) where
+  pub any-history-reached : (arrived : List LentByte) → Reached (booksAfter sheet arrived)
+  any-history-reached arrived = history-stays [] (freshDevice sheet) arrived fresh-reached (fresh-agrees sheet room) .0
 
-pub any-history-agrees : (arrived : List LentByte) → Agrees (entriesOf arrived) (storeAfter arrived)
-any-history-agrees arrived = history-stays [] freshDevice arrived fresh-reached fresh-agrees .1
+  pub any-history-agrees : (arrived : List LentByte) → Agrees (entriesOf sheet arrived) (storeAfter sheet arrived)
+  any-history-agrees arrived = history-stays [] (freshDevice sheet) arrived fresh-reached (fresh-agrees sheet room) .1
 
 -- one byte more
 pub device-after-one : (s : State Store) (arrived : List LentByte) (a : LentByte) → deviceAfter s (arrived ++ a ∷ []) ≡ turnBy (deviceAfter s arrived) a .state
@@ -160,12 +170,13 @@ module _ (s : State Store) (r : Reached (s .store .books)) (m : Message) (servic
   abbrev Shows : Turn Store → Type 0
   Shows t = t .carried ≡ m ∷ [] → t .number ≡ 0 → cashIn (dataIn (t .gives)) ≡ t .state .store .books .drawer .cash
 
-  shows : (next : Place) (n : Message) (x : Parsed) → x ≡ Read (Drawer service) → orderAs s next n x .number ≡ 0 → cashIn (dataIn (answerAs s next n x)) ≡ deedFor (s .store .books) x .books .drawer .cash
+  shows : (next : Place) (n : Message) (x : Parsed) → x ≡ Read (Drawer service) → orderAs s next n x .number ≡ 0 → cashIn (dataIn (answerAs s next n x)) ≡ deedAs s next n x .books .drawer .cash
   shows next n x e z =
-      let d = deedFor (s .store .books) x in
-      let drawer : d .shown ≡ shown.InDrawer = ap (λ y. deedFor (s .store .books) y .shown) e ∙ seventy-shows-the-drawer (s .store .books) service (sym (ap (λ y. deedFor (s .store .books) y .number) e) ∙ z) in
+      let d = deedAs s next n x in
+      let none = matchOf (s .store .sheet) (searchIn (s .store .books) (Read (Drawer service))) in
+      let drawer : d .shown ≡ shown.InDrawer = ap (λ y. deedAs s next n y .shown) e ∙ seventy-shows-the-drawer (s .store .books) none service (sym (ap (λ y. deedAs s next n y .number) e) ∙ z) in
       ap cashIn (data-read (n .seq) (n .code) (contentOf (d .shown) (s .store .books .day) (d .books)) (statusOf (d .number) (d .books)) refl)
-      ∙ cash-shown (d .shown) (s .store .books .day) (d .books) drawer (deed-stays (s .store .books) x r)
+      ∙ cash-shown (d .shown) (s .store .books .day) (d .books) drawer (deed-stays (s .store .books) (matchOf (s .store .sheet) (searchIn (s .store .books) x)) x r)
 
   pub cash-in-answer : (a : LentByte) → Shows (turnBy s a)
   cash-in-answer =

@@ -7,7 +7,7 @@ use native.Mathlib.Omega.{arith}
 use lib.Dec.{eqb, ltb}
 use lib.ListN.{length, getD, take, drop, length-append, length-take}
 use borrow.Author.Tests.{ltb-false}
-use Rattle.wire.specs.Frame.{commandOf, answerOf, frame, counted, bcc, total, inner, sendable}
+use Rattle.wire.specs.Frame.{commandOf, frame, sendable}
 use Rattle.wire.specs.Places.{dataCount}
 use Rattle.wire.specs.declared.Way.the-variants.{ToDevice, ToTill}
 use Rattle.reader.specs.Reading.{Place, outside, inside, Event, nothing, brokenFrame, heard, suits, atLast, Standing, broken, beginning, whole, goesOn, grown, message, startsAnew, readOther, read}
@@ -109,10 +109,3 @@ turn-fits s z buffer h = go (ltb (length buffer) 210) refl
     go false e =
         let t : Fitting-turn (till.takes s h) = taken (s .next) (s .pending) z h in
         record { leaves = t .leaves; puts = omega (arith, t .puts, ltb-false (length buffer) 210 e) }
-
--- an answer frame has 17 bytes besides its data
-pub answer-length : (seq code : ℕ) (content status : List ℕ) → length (frame ToTill (answerOf seq code content status)) ≡ length content + length status + 11
-answer-length seq code content status =
-    let between : List ℕ = inner ToTill (answerOf seq code content status) in
-    let checked : List ℕ = bcc (total (counted seq code between)) in
-    omega (arith, length-append (counted seq code between ++ checked) (0x03 ∷ []), length-append (counted seq code between) checked, length-append between (0x05 ∷ []), length-append content (0x04 ∷ status))

@@ -7,12 +7,23 @@ use lib.ListN.{replicate}
 use Rattle.text.specs.Digits.{digits, number}
 use Rattle.wire.specs.Frame.{commandOf, frame}
 use Rattle.wire.specs.declared.Way.the-variants.{ToDevice}
+use Rattle.sheet.specs.Sheet.{blank}
+use Rattle.sheet.specs.declared.Line.{Line}
+use Rattle.line.specs.Turns.{State}
+use Rattle.store.specs.Store.{Store}
 use Rattle.history.specs.History.{linesSold, paymentTried, paidInFull, putIn}
 use Rattle.promises.specs.Demand2.{LentByte, turnsOf, dataIn, freshDevice, allGiven, deviceAfter, entriesOf, cashIn}
 
+-- a fresh device with a sheet on which nothing stands
+abbrev noLines : List Line
+noLines = replicate 512 blank
+
+abbrev fresh : State Store
+fresh = freshDevice noLines
+
 -- a command, with a buffer of this length lent for each of its bytes
 abbrev sent : ℕ → ℕ → ℕ → List ℕ → List LentByte
-sent room seq code content = map (λ b. record { lent = record { buffer = replicate room 0 }; byte = b }) (frame ToDevice (commandOf seq code content))
+sent room seq code content = map (λ b. record { lent = record { buffer = replicate room 0; lines = 512 }; byte = b }) (frame ToDevice (commandOf seq code content))
 
 -- 49 `Tab B12.67`
 abbrev sale : ℕ → List LentByte
@@ -37,31 +48,31 @@ abbrev asked : List LentByte
 asked = sent 217 0x25 70 []
 
 -- 17 bytes, none of them taken
-pub seven-each : map (λ t. t .number) (turnsOf freshDevice (sale 216)) ≡ replicate 17 7
+pub seven-each : map (λ t. t .number) (turnsOf fresh (sale 216)) ≡ replicate 17 7
 seven-each = refl
 
-pub one-line : linesSold (entriesOf sold) ≡ 1
+pub one-line : linesSold (entriesOf noLines sold) ≡ 1
 unfolding digits number
 one-line = refl
 
-pub not-tried : paymentTried (entriesOf refused) ≡ false
+pub not-tried : paymentTried (entriesOf noLines refused) ≡ false
 unfolding digits number
 not-tried = refl
 
-pub in-full : paidInFull (entriesOf paid) ≡ true
+pub in-full : paidInFull (entriesOf noLines paid) ≡ true
 unfolding digits number
 in-full = refl
 
 -- newest first: 70, 56, 53, the refused 53, 49, 48
-pub numbers : map (λ e. e .number) (entriesOf (closed ++ asked)) ≡ 0 ∷ 0 ∷ 0 ∷ 3 ∷ 0 ∷ 0 ∷ []
+pub numbers : map (λ e. e .number) (entriesOf noLines (closed ++ asked)) ≡ 0 ∷ 0 ∷ 0 ∷ 3 ∷ 0 ∷ 0 ∷ []
 unfolding digits number
 numbers = refl
 
-pub change-left-out : putIn (entriesOf (closed ++ asked)) ≡ 1267
+pub change-left-out : putIn (entriesOf noLines (closed ++ asked)) ≡ 1267
 unfolding digits number
 change-left-out = refl
 
 -- "70 gives cash 12.67"
-pub seen : cashIn (dataIn (allGiven (turnsOf (deviceAfter freshDevice closed) asked))) ≡ 1267
+pub seen : cashIn (dataIn (allGiven (turnsOf (deviceAfter fresh closed) asked))) ≡ 1267
 unfolding digits number
 seen = refl

@@ -3,8 +3,10 @@ use mathlib.Core.Path.{_≡_, refl, sym, ap, _∙_}
 use mathlib.Core.Bool.{Bool, true, false, cond}
 use mathlib.Core.List.{List, [], _++_, append-assoc}
 use Prim.Native.Nat.{ℕ, _≤_}
+use lib.Dec.{leb}
 use lib.ListN.{length, take, drop}
 use borrow.Author.Tests.{leb-true}
+use Rattle.basics.proofs.Tests.{both}
 use Rattle.wire.specs.Frame.{Message}
 use Rattle.line.specs.Turns.{State, Session, session, switchedOn}
 use Rattle.line.specs.declared.Call.the-variants.{Quiet}
@@ -55,7 +57,7 @@ module _ (f : Machines) (ok : DeviceOk (f .device)) (lent : Lent) (part : List �
       go : (long : Bool) → enough lent ≡ long → either long .after .count ≤ 217 → Called f part (either long)
       go false e few = record { carried = []; goes-on = refl }
       go true e few =
-          let p = part-is part (f .device) lent (ok .frames) (ok .lasts) (leb-true 217 (length (lent .buffer)) e) (ok .short) few in
+          let p = part-is part (f .device) lent (ok .frames) (ok .lasts) (leb-true 217 (length (lent .buffer)) (both (leb 217 (length (lent .buffer))) (leb 512 (lent .lines)) e .0)) (ok .short) few in
           let h : PartHeard = hearing (f .device) lent part in
           let carried = carriedBy (h .call) (h .after .machine .frame) in
           record {
@@ -83,9 +85,9 @@ through {f} {g} ok (one-call {gives = gives} lent part rest more) =
 
 -- the theorem: whatever buffers are lent, and however the bytes come in parts, all that fresh fields give back and the books behind it are the recording's
 pub the-calls-are-the-recording : (f g : Machines) → Fresh f → (bytes gives : List ℕ) → HeardThrough f bytes gives g
-    → (gives ≡ recording bytes .gives) × (storeOf (g .device) ≡ recording bytes .state .store)
+    → (gives ≡ recording (f .device .sheet) bytes .gives) × (storeOf (g .device) ≡ recording (f .device .sheet) bytes .state .store)
 the-calls-are-the-recording f g fresh bytes gives h =
     let t = through (fresh-device f fresh) h in
-    let says-fresh : stateIn f ≡ switchedOn freshStore = rw (fresh .device) in
-    let same : recording bytes ≡ record { gives = gives; carried = t .carried; state = stateIn g } = sym (ap (λ s. session carry s bytes) says-fresh) ∙ t .is-session in
+    let says-fresh : stateIn f ≡ switchedOn (freshStore (f .device .sheet)) = rw (fresh .device) in
+    let same : recording (f .device .sheet) bytes ≡ record { gives = gives; carried = t .carried; state = stateIn g } = sym (ap (λ s. session carry s bytes) says-fresh) ∙ t .is-session in
     (sym (ap (λ (s : Session Store). s .gives) same), sym (ap (λ (s : Session Store). s .state .store) same))

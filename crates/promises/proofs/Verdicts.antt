@@ -33,6 +33,7 @@ use Rattle.kinds.specs.declared.Service.the-variants.{In, Out}
 use Rattle.command.specs.Money.{star, semicolon, groupOf, quantityIn, pricedOf, withPercent, withAmount, saleOf, sellOf, behindTabOf, restThen, isMode, modeOf, tenderOf, paymentIn, payOf, drawerOf}
 use Rattle.command.specs.Commands.{parsedOf}
 use Rattle.receipt.specs.Lines.{adjustFits}
+use Rattle.sheet.specs.declared.Match.{Match}
 use Rattle.books.specs.declared.Books.{Books}
 use Rattle.rules.specs.Rules.{ruleOf}
 use Rattle.rules.specs.Views.{viewOf}
@@ -45,7 +46,7 @@ pub data Right : Parsed → Type 0 where
   no-kind : Right Unknown
   is-read : {c : Command} → Given (viewOf c) → Right (Read c)
 
-plain : {c : Command} → ((b : Books) → ruleOf b (viewOf c) .one ≡ false) → ofAsked 0 leftOf (viewOf c) ≡ 0 → Right (Read c)
+plain : {c : Command} → ((b : Books) (m : Match) → ruleOf b m (viewOf c) .one ≡ false) → ofAsked 0 leftOf (viewOf c) ≡ 0 → Right (Read c)
 plain e f = is-read (record { one = e; rest = f })
 
 either : (x : Bool) (p q : Parsed) → Right p → Right q → Right (cond x p q)
@@ -67,29 +68,29 @@ opens s =
     (field-right (fieldOf 1 (upTo comma s)) _ (λ eo.
     field-right (fieldOf 6 (upTo comma (past comma s))) _ (λ ep.
     field-right (fieldOf 5 (past comma (past comma s))) _ (λ et.
-    either (within 1 8 (fieldValue (fieldOf 1 (upTo comma s))) && leb 4 (length (upTo comma (past comma s)))) _ Syntax (plain (λ books. refl) refl) syntax))))
+    either (within 1 8 (fieldValue (fieldOf 1 (upTo comma s))) && leb 4 (length (upTo comma (past comma s)))) _ Syntax (plain (λ books m. refl) refl) syntax))))
     syntax
 
 sums-right : (s : List ℕ) → Right (sumsOf s)
-sums-right [] = plain (λ books. refl) refl
-sums-right (b ∷ []) = either (eqb b 0x30) _ _ (plain (λ books. refl) refl) (either (eqb b 0x31) _ _ (plain (λ books. refl) refl) syntax)
+sums-right [] = plain (λ books m. refl) refl
+sums-right (b ∷ []) = either (eqb b 0x30) _ _ (plain (λ books m. refl) refl) (either (eqb b 0x31) _ _ (plain (λ books m. refl) refl) syntax)
 sums-right (a ∷ b ∷ s) = syntax
 
 closing-right : (s : List ℕ) → Right (closingOf s)
 closing-right [] = syntax
-closing-right (b ∷ []) = either (eqb b 0x30) _ _ (plain (λ books. refl) refl) (either (eqb b 0x32) _ _ (plain (λ books. refl) refl) syntax)
+closing-right (b ∷ []) = either (eqb b 0x30) _ _ (plain (λ books m. refl) refl) (either (eqb b 0x32) _ _ (plain (λ books m. refl) refl) syntax)
 closing-right (a ∷ b ∷ s) = syntax
 
 drawer-right : (s : List ℕ) → Right (drawerOf s)
-drawer-right [] = plain (λ books. refl) refl
+drawer-right [] = plain (λ books m. refl) refl
 drawer-right (b ∷ s) =
     let minus = signedMinus (signedPriceOf (b ∷ s)) in
     let n = signedSize (signedPriceOf (b ∷ s)) in
     signed-right (signedPriceOf (b ∷ s)) _ (λ e. go minus n (lt-ltb n 10000000000 (signed-price-small (b ∷ s) minus n e)))
   where
     go : (minus : Bool) (n : ℕ) → ltb n 10000000000 ≡ true → Right (Read (Drawer (cond minus (Out n) (In n))))
-    go true n e = plain (λ books. ap not e) refl
-    go false n e = plain (λ books. ap not e) refl
+    go true n e = plain (λ books m. ap not e) refl
+    go false n e = plain (λ books m. ap not e) refl
 
 rest-right : (f : Found) (s : List ℕ) (next : List ℕ → Parsed) → ((r : List ℕ) → Right (next r)) → Right (restThen f s next)
 rest-right (At n) s next k = k (drop n s)
@@ -105,19 +106,19 @@ above-zero (Is m) n e = go (ltb 0 m) refl e
 above-zero NotOne n e = let z : _≡_ {A = ℕ} 0 1 = cc in absurd (omega arith)
 
 tender-right : (mode : Mode) (s : List ℕ) → Right (tenderOf mode s)
-tender-right mode [] = plain (λ books. refl) refl
+tender-right mode [] = plain (λ books m. refl) refl
 tender-right mode (b ∷ s) =
     let n = fieldValue (aboveZero (priceOf (b ∷ s))) in
     field-right (aboveZero (priceOf (b ∷ s))) _ (λ e.
     let more = above-zero (priceOf (b ∷ s)) n e in
-    plain (λ books. ap not (and-true _ _ (more .1) (lt-ltb n 10000000000 (price-small (b ∷ s) n (more .0))))) refl)
+    plain (λ books m. ap not (and-true _ _ (more .1) (lt-ltb n 10000000000 (price-small (b ∷ s) n (more .0))))) refl)
 
 payment-right : (s : List ℕ) → Right (paymentIn s)
-payment-right [] = plain (λ books. refl) refl
+payment-right [] = plain (λ books m. refl) refl
 payment-right (b ∷ s) = either (isMode b) _ _ (tender-right (modeOf b) s) (tender-right Cash (b ∷ s))
 
 pay-right : (s : List ℕ) → Right (payOf s)
-pay-right [] = plain (λ books. refl) refl
+pay-right [] = plain (λ books m. refl) refl
 pay-right (b ∷ s) = rest-right (restOf (b ∷ s)) (b ∷ s) paymentIn payment-right
 
 -- 49: group, price, quantity and what follows
@@ -144,7 +145,7 @@ priced-right group minus s a small fit =
     field-right (quantityIn s) _ (λ eq.
     let some = quantity-right s quantity eq in
     plain
-    (λ books. ap not
+    (λ books m. ap not
     (and-true _ _
     (and-true _ _
     (and-true _ _

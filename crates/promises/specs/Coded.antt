@@ -1,6 +1,6 @@
 -- The code, call by call: any list of calls of the device's `hear` and of the till end's `command`, `byte` and `timeout`, with any bytes and any lent buffers,
 -- on the fields and arrays that each call hands to the next. What the functions promise of a call is what the table says of the events in it.
-use Prim.Native.Nat.{ℕ, _+_}
+use Prim.Native.Nat.{ℕ, _+_, _≤_}
 use mathlib.Core.Path.{_≡_}
 use mathlib.Core.Bool.{Bool, true, false}
 use mathlib.Core.List.{List, [], _∷_, _++_}
