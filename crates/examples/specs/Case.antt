@@ -3,9 +3,11 @@ use Prim.Native.Char.{code}
 use Prim.Native.Nat.{ℕ, _-_}
 use Prim.Native.String as string
 use mathlib.Core.List.{List, [], _∷_, _++_, map}
-use lib.ListN.{length, set}
+use lib.ListN.{length, set, replicate}
 use Rattle.wire.specs.Frame.{Message, commandOf, answerOf, frame}
 use Rattle.wire.specs.declared.Way.the-variants.{ToDevice, ToTill}
+use Rattle.sheet.specs.Sheet.{blank}
+use Rattle.sheet.specs.declared.Line.{Line}
 use Rattle.store.specs.Store.{Store, freshStore}
 use Rattle.line.specs.Turns.{State, switchedOn, session}
 use Rattle.carrying.specs.Carrying.{carry}
@@ -54,10 +56,14 @@ abbrev pub heardInAll : List Exchange → List ℕ
 heardInAll [] = []
 heardInAll (e ∷ es) = e .hears ++ heardInAll es
 
+-- whatever the sheet holds that a fresh device is lent: here nothing
+abbrev pub noLines : List Line
+noLines = replicate 512 blank
+
 abbrev pub allMarked : List Exchange → List Listed
-allMarked es = map (λ m. marked (m .seq) (m .code)) (session carry (switchedOn freshStore) (heardInAll es) .carried)
+allMarked es = map (λ m. marked (m .seq) (m .code)) (session carry (switchedOn (freshStore noLines)) (heardInAll es) .carried)
 
 -- a case worked out: what it says is sent, given back and carried out, by the definitions
 abbrev pub worked : Case → Case
 worked (built number command sent) = built number command (frame ToDevice command)
-worked (talk number exchanges done) = talk number (exchanged (switchedOn freshStore) exchanges) (allMarked exchanges)
+worked (talk number exchanges done) = talk number (exchanged (switchedOn (freshStore noLines)) exchanges) (allMarked exchanges)

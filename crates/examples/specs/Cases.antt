@@ -11,7 +11,8 @@ use Rattle.examples.specs.Case.{Case, built, talk, Exchange, asks, bytes
 abbrev pub NAK : List ℕ
 NAK = 0x15 ∷ []
 
--- PROTOCOL 3.2, 3.3: the status bytes of a command done with no receipt open, of one done with a fiscal receipt open, and of a refusal with it open for syntax
+-- PROTOCOL 3.2, 3.3: the status bytes of a command done with no receipt open, of one done with a fiscal receipt open, and of refusals
+-- with it open, for syntax and as not permitted
 abbrev pub idle : List ℕ
 idle = 0x80 ∷ 0x80 ∷ 0x80 ∷ 0x80 ∷ 0x86 ∷ 0x9A ∷ []
 
@@ -20,6 +21,9 @@ fiscal = 0x80 ∷ 0x80 ∷ 0x88 ∷ 0x80 ∷ 0x86 ∷ 0x9A ∷ []
 
 abbrev pub syntaxError : List ℕ
 syntaxError = 0xA1 ∷ 0x80 ∷ 0x88 ∷ 0x80 ∷ 0x86 ∷ 0x9A ∷ []
+
+abbrev pub barred : List ℕ
+barred = 0xA0 ∷ 0x82 ∷ 0x88 ∷ 0x80 ∷ 0x86 ∷ 0x9A ∷ []
 
 -- PROTOCOL 1.6: 74 with SEQ 20h, with this for the last BCC byte
 abbrev pub status74 : ℕ → List ℕ
@@ -107,4 +111,17 @@ cases =
     ∷ asks 0x21 70 "" "P,000000000500,000000000500,000000000000" idle
     ∷ [])
     (marked 0x20 70 ∷ marked 0x21 70 ∷ [])
+    -- PROTOCOL 5.4, 6.4, request 2026-01: a lev less 25 stotinki, and a lev: the newer one is taken back first, then the other's 0.75, and the third time there is
+    -- none to take back
+    ∷ talk 202601
+    (opens
+    ∷ asks 0x21 49 "\tB1.00;-0.25" "" fiscal
+    ∷ asks 0x22 49 "\tB1" "" fiscal
+    ∷ asks 0x23 49 "\tB-1*1.000" "" fiscal
+    ∷ asks 0x24 51 "00" "0000000075,0000000000,0000000075,0000000000,0000000000,0000000000,0000000000,0000000000,0000000000" fiscal
+    ∷ asks 0x25 49 "\tB-1.0" "" fiscal
+    ∷ asks 0x26 49 "\tB-1" "" barred
+    ∷ asks 0x27 51 "00" "0000000000,0000000000,0000000000,0000000000,0000000000,0000000000,0000000000,0000000000,0000000000" fiscal
+    ∷ [])
+    (marked 0x20 48 ∷ marked 0x21 49 ∷ marked 0x22 49 ∷ marked 0x23 49 ∷ marked 0x24 51 ∷ marked 0x25 49 ∷ marked 0x26 49 ∷ marked 0x27 51 ∷ [])
     ∷ []
