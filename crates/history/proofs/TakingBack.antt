@@ -46,6 +46,24 @@ module _ (es : List Entry) (s : Store) (x : Sale) (k : Reached (s .books)) (h : 
   found : Free (s .books) (matchFor s (Sells x)) (Sells x) → newestLike x (linesIn es) .found ≡ true
   found free = ap (λ (m : Match). m .found) (sym told) ∙ line-done (s .books) (matchFor s (Sells x)) x free .found minus
 
+-- 3 by the last of its reasons, that there is no line to take back
+last-reason : (a b : Bool) → b ≡ true → a || b ≡ true
+last-reason true b e = refl
+last-reason false b e = e
+
+no-line : (minus found below : Bool) → minus ≡ true → found ≡ false → minus && (not found || below) ≡ true
+no-line minus found below e f = rw (e, f)
+
+number-three : (b : Books) (r : Rule) → r .one ≡ false → r .three ≡ true → judged b r .number ≡ 3
+number-three b r e f = rw (e, f)
+
+-- one command more, and the lines are counted
+counted-next : (es : List Entry) (s : Store) → Reached (s .books) → Agrees es s → standing (linesIn es) + linesOff es ≡ linesAdded es → (v : View) (shown : List ℕ) {d : Deed}
+    → Step (s .books) (matchFor s v) v d → Counted es (cond (isDone (d .number)) v (Asks Always Nothing)) shown
+counted-next es s k h e v shown (refused n l) = omega arith
+counted-next es s k h e v shown (goes free) =
+    counted es e v shown (λ x is minus. found es s x k h minus (subst (λ w. Free (s .books) (matchFor s w) w) is free))
+
 -- "a minus line must now find the last plus line of the same price, quantity and group not yet taken back, and takes off its finished amount, discount and
 -- all": each that is done did so
 pub a-line-off-takes-back-one-sold : (es : List Entry) (s : Store) (x : Sale) → Reached (s .books) → Agrees es s → deedOn s (Sells x) .number ≡ 0 → x .minus ≡ true
@@ -59,16 +77,6 @@ a-line-off-takes-back-one-sold es s x k h z minus =
     go (goes free) z shown = took es (record { command = Sell x; number = 0; shown = shown }) x refl minus (found es s x k h minus free)
 
 -- "An apprentice took back a coffee that nobody had sold": where no line stands of this price, quantity and group, it is refused with 3
-last-reason : (a b : Bool) → b ≡ true → a || b ≡ true
-last-reason true b e = refl
-last-reason false b e = e
-
-no-line : (minus found below : Bool) → minus ≡ true → found ≡ false → minus && (not found || below) ≡ true
-no-line minus found below e f = rw (e, f)
-
-number-three : (b : Books) (r : Rule) → r .one ≡ false → r .three ≡ true → judged b r .number ≡ 3
-number-three b r e f = rw (e, f)
-
 pub what-nobody-sold-is-refused : (es : List Entry) (s : Store) (x : Sale) → Reached (s .books) → Agrees es s → Given (Sells x) → x .minus ≡ true
     → ((i : ℕ) → i < length (linesIn es) → isLike (lineAt i (linesIn es)) x ≡ false) → deedOn s (Sells x) .number ≡ 3
 what-nobody-sold-is-refused es s x k h given minus none =
@@ -92,12 +100,6 @@ pub taken-back-for-good : (later es : List Entry) → sameReceipt later ≡ true
 taken-back-for-good later es same i lt back = still-back es i lt back later same .1
 
 -- so no line is taken back twice: in every history, the lines that stand and those done with `-` are together as many as were sold
-counted-next : (es : List Entry) (s : Store) → Reached (s .books) → Agrees es s → standing (linesIn es) + linesOff es ≡ linesAdded es → (v : View) (shown : List ℕ) {d : Deed}
-    → Step (s .books) (matchFor s v) v d → Counted es (cond (isDone (d .number)) v (Asks Always Nothing)) shown
-counted-next es s k h e v shown (refused n l) = omega arith
-counted-next es s k h e v shown (goes free) =
-    counted es e v shown (λ x is minus. found es s x k h minus (subst (λ w. Free (s .books) (matchFor s w) w) is free))
-
 pub each-takes-one-back : {es : List Entry} {s : Store} → LeadsTo es s → standing (linesIn es) + linesOff es ≡ linesAdded es
 each-takes-one-back (fresh sheet room) = refl
 each-takes-one-back (next {es} {s} c given past) =

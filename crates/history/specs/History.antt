@@ -109,6 +109,7 @@ withPayment r p shown =
 abbrev pub noneTold : ReceiptTold
 noneTold = record { sums = λ g. 0; lines = 0; sold = []; paid = 0; tried = false; settled = false }
 
+-- what comes after these is another receipt
 abbrev pub isAnother : View → Bool
 isAnother v = does 48 v || does 56 v || does 60 v
 
