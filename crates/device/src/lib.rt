@@ -3,12 +3,14 @@ use machine::Device;
 use machine::Hearing;
 use reader::FRAME_ROOM;
 use sheet::Line;
+use sheet::MOST_LINES;
 use wire::ANSWER_ROOM;
 ghost use mathlib.Core.Path.{_≡_};
 ghost use Prim.Native.Nat.{_≤_};
-ghost use lib.ListN.{length, drop};
-ghost use Rattle.machine.specs.Hearing.{partOf};
-ghost use Rattle.machine.specs.Together.{together};
+ghost use lib.ListN.{length, drop, replicate};
+ghost use Rattle.sheet.specs.Sheet.{blank};
+ghost use Rattle.machine.specs.Device.{freshFields};
+ghost use Rattle.machine.specs.Hearing.{partOf, afterPart};
 
 // Bytes of a lent part from a place on, up to and including the first that asks for something; what it gives back stands in `buf`. The
 // bytes since 01h stand in `frame`, the last answer in `last`, the lines of the newest fiscal receipt in `sheet`: all three are the
@@ -22,7 +24,7 @@ pub fn hear(
     bytes: &[u8],
     from: usize,
 ) -> Hearing
-    ensures { λ r. ⌜ (partOf r (now (frame .exit)) (now (last .exit)) (now (buf .exit)) (now (sheet .exit)) (length (now (sheet .entry))) ≡ together device (now (frame .entry)) (now (last .entry)) (now (buf .entry)) (now (sheet .entry)) (drop from (now (bytes .entry)))) × (r .given .count ≤ 217) ⌝ }
+    ensures { λ r. ⌜ (partOf r (now (frame .exit)) (now (last .exit)) (now (buf .exit)) (now (sheet .exit)) (length (now (sheet .entry))) ≡ afterPart (record { device = device; frame = now (frame .entry); last = now (last .entry); sheet = now (sheet .entry) }) (record { buffer = now (buf .entry); lines = length (now (sheet .entry)) }) (drop from (now (bytes .entry)))) × (r .given .count ≤ 217) ⌝ }
 {
     let lines = sheet::length_of(sheet);
     let begun = machine::begin(device, frame, buf.len(), lines, bytes, from);
@@ -31,4 +33,28 @@ pub fn hear(
     let ended = machine::finish(begun, at, found, last, buf);
     sheet::tell(sheet, ended.writes);
     ended.hearing
+}
+
+// A device with its sheet, by value: for callers that cannot lend a slice of records.
+pub struct Kept {
+    pub device: Device,
+    pub sheet: [Line; MOST_LINES],
+}
+
+// What a call brought, and the sheet behind it.
+pub struct KeptHearing {
+    pub hearing: Hearing,
+    pub sheet: [Line; MOST_LINES],
+}
+
+// A fresh device, with a sheet on which nothing stands.
+pub fn fresh_kept() -> Kept
+    ensures { λ r. ⌜ r ≡ record { device = freshFields; sheet = replicate 512 blank } ⌝ }
+{
+    let device = machine::fresh();
+    let line = sheet::blank_line();
+    Kept {
+        device,
+        sheet: [line; MOST_LINES],
+    }
 }
