@@ -1,3 +1,4 @@
 pub mod Listening
 pub mod Calling
 pub mod Through
+pub mod SharedRef

@@ -12,6 +12,8 @@ use Rattle.machine.specs.Hearing.{PartHeard, afterPart, carriedBy}
 use Rattle.machine.specs.declared.Device.{Device}
 use Rattle.machine.specs.declared.Hearing.{Hearing}
 use Rattle.recorder.specs.Recording.{listing}
+use Rattle.device.specs.declared.Kept.{Kept}
+use Rattle.recorder.specs.declared.Part.{Part}
 use Rattle.recorder.specs.declared.Run.{Run}
 
 -- what one call adds to the two buffers, and how far the part is heard then
@@ -90,3 +92,24 @@ heardThrough bytes s = running (callsLeft bytes s) bytes s
 -- a run begins at the part's first byte
 abbrev pub startOf : Device → (total : ℕ) → Run
 startOf d total = record { device = d; place = 0; given = 0; listed = 0; more = ltb 0 total }
+
+-- a part heard with the sheet held by value: everything behind it
+pub record PartLeft : Type 0 where
+  pub part : Part
+  pub frame : List ℕ
+  pub last : List ℕ
+  pub buffer : List ℕ
+  pub out : List ℕ
+  pub orders : List ℕ
+
+abbrev pub partLeft : Part → (frame last buffer out orders : List ℕ) → PartLeft
+partLeft p frame last buffer out orders =
+    record { part = p; frame = frame; last = last; buffer = buffer; out = out; orders = orders }
+
+abbrev pub handedBack : Running → PartLeft
+handedBack s =
+    partLeft (record { kept = record { device = s .run .device; sheet = s .sheet }; given = s .run .given; listed = s .run .listed }) (s .frame) (s .last) (s .buffer) (s .out) (s .orders)
+
+abbrev pub partHeard : Kept → (frame last buffer bytes out orders : List ℕ) → PartLeft
+partHeard k frame last buffer bytes out orders =
+    handedBack (heardThrough bytes (record { run = startOf (k .device) (length bytes); frame = frame; last = last; buffer = buffer; sheet = k .sheet; out = out; orders = orders }))

@@ -1,18 +1,21 @@
 // A recording: all the bytes that a fresh device heard (PROTOCOL 1.1); and any part of the line's bytes, heard to its end.
 use basics::least_size;
 use books::Books;
+use device::Kept;
 use line::Call;
 use line::MOST_HELD;
 use machine::Device;
 use machine::Hearing;
 use reader::FRAME_ROOM;
+use sheet::Line;
+use wire::ANSWER_ROOM;
 ghost use mathlib.Core.Path.{_≡_};
 ghost use Prim.Native.Nat.{_+_, _≤_, min};
 ghost use lib.ListN.{length};
 ghost use lib.Seq.{sets};
 ghost use Rattle.machine.specs.Hearing.{carriedBy};
 ghost use Rattle.recorder.specs.Recording.{listing};
-ghost use Rattle.recorder.specs.Running.{placeAfter, notedDown, startOf};
+ghost use Rattle.recorder.specs.Running.{placeAfter, notedDown, heardThrough, startOf, partLeft, partHeard};
 
 // A part heard so far: the device, the place of the next byte, how many bytes stand in the two lent buffers, and whether there is more.
 pub struct Run {
@@ -41,6 +44,28 @@ pub fn start(device: Device, total: usize) -> Run
         listed: 0,
         more: 0 < total,
     }
+}
+
+// The bytes of a part, call by call: what the device gives back goes into `out`, the commands carried out into `orders`, as far as each
+// reaches. With less than 217 bytes or 512 lines lent no byte is heard.
+pub fn hear_run(
+    begun: Run,
+    frame: &mut [u8; FRAME_ROOM],
+    last: &mut [u8; ANSWER_ROOM],
+    buf: &mut [u8],
+    sheet: &mut [Line],
+    bytes: &[u8],
+    out: &mut [u8],
+    orders: &mut [u8],
+) -> Run
+    ensures { λ r. ⌜ record { run = r; frame = now (frame .exit); last = now (last .exit); buffer = now (buf .exit); sheet = now (sheet .exit); out = now (out .exit); orders = now (orders .exit) } ≡ heardThrough (now (bytes .entry)) (record { run = begun; frame = now (frame .entry); last = now (last .entry); buffer = now (buf .entry); sheet = now (sheet .entry); out = now (out .entry); orders = now (orders .entry) }) ⌝ }
+{
+    let mut run = begun;
+    while run.more {
+        let heard = device::hear(run.device, frame, last, buf, sheet, bytes, run.place);
+        run = note_down(run, heard, frame, buf, bytes.len(), out, orders);
+    }
+    run
 }
 
 // What one call brought: its bytes behind those that stand already, its command behind the others, and the next byte's place.
@@ -119,5 +144,37 @@ fn list_call(call: Call, frame: &[u8], orders: &mut [u8], at: usize) -> usize
             let behind = append(orders, at, &head);
             append(orders, behind, &frame[3..end])
         }
+    }
+}
+
+// A part heard: the device with its sheet, and how many bytes stand in the two lent buffers.
+pub struct Part {
+    pub kept: Kept,
+    pub given: usize,
+    pub listed: usize,
+}
+
+// The bytes of a part, with the sheet held by value.
+pub fn hear_part(
+    kept: Kept,
+    frame: &mut [u8; FRAME_ROOM],
+    last: &mut [u8; ANSWER_ROOM],
+    buf: &mut [u8],
+    bytes: &[u8],
+    out: &mut [u8],
+    orders: &mut [u8],
+) -> Part
+    ensures { λ r. ⌜ partLeft r (now (frame .exit)) (now (last .exit)) (now (buf .exit)) (now (out .exit)) (now (orders .exit)) ≡ partHeard kept (now (frame .entry)) (now (last .entry)) (now (buf .entry)) (now (bytes .entry)) (now (out .entry)) (now (orders .entry)) ⌝ }
+{
+    let mut s = kept.sheet;
+    let begun = start(kept.device, bytes.len());
+    let run = hear_run(begun, frame, last, buf, &mut s, bytes, out, orders);
+    Part {
+        kept: Kept {
+            device: run.device,
+            sheet: s,
+        },
+        given: run.given,
+        listed: run.listed,
     }
 }
