@@ -152,14 +152,25 @@ fn lend(
     requires { ⌜ length (now buf) ≡ 65536 ⌝ }
 {
     let bytes = [byte];
-    let heard = device::hear_kept(kept, lines, frame, last, &mut buf[0..room], &bytes, 0);
+    let part = &mut buf[0..room];
+    if lines < MOST_LINES {
+        let device = kept.device;
+        let short = device::hear_short(device, frame, last, part, &bytes, 0);
+        let given = short.given;
+        return told(kept, given, &*buf);
+    }
+    let heard = device::hear_kept(kept, frame, last, part, &bytes, 0);
     let hearing = heard.hearing;
     let given = hearing.given;
     let device = given.device;
     let sheet = heard.sheet;
+    told(Kept { device, sheet }, given, &*buf)
+}
+
+fn told(kept: Kept, given: Given, buf: &[u8]) -> Told {
     Told {
-        kept: Kept { device, sheet },
-        written: say(given, &*buf),
+        kept,
+        written: say(given, buf),
     }
 }
 

@@ -1,11 +1,16 @@
 // As much as a receipt and a frame hold, and one more (PROTOCOL 8.1, 8.2).
-use device::Device;
-use device::Given;
+use device::Kept;
 use libc::STDOUT_FILENO;
 use reader::FRAME_ROOM;
 use wire::ANSWER_ROOM;
 use wire::Built;
 use wire::COMMAND_ROOM;
+
+// The device and its sheet behind a command, and the reply number.
+struct Sent {
+    kept: Kept,
+    number: u64,
+}
 
 fn main() {
     word(b"999999.99: ");
@@ -20,8 +25,8 @@ fn main() {
 fn fill(sale: &[u8]) {
     let mut frame = [0u8; FRAME_ROOM];
     let mut last = [0u8; ANSWER_ROOM];
-    let mut given = send(
-        device::fresh(),
+    let mut sent = send(
+        device::fresh_kept(),
         &mut frame,
         &mut last,
         0x20,
@@ -30,9 +35,9 @@ fn fill(sale: &[u8]) {
     );
     let mut taken = 0u64;
     while taken < 1000 {
-        let device = given.device;
-        given = send(device, &mut frame, &mut last, seq(taken), 49, sale);
-        let number = given.number;
+        let kept = sent.kept;
+        sent = send(kept, &mut frame, &mut last, seq(taken), 49, sale);
+        let number = sent.number;
         if number != 0 {
             tell(taken, number);
             return;
@@ -58,29 +63,28 @@ fn seq(n: u64) -> u8 {
 
 // A command, as the device hears it: its whole frame. The bytes given back are not looked at.
 fn send(
-    device: Device,
+    kept: Kept,
     frame: &mut [u8; FRAME_ROOM],
     last: &mut [u8; ANSWER_ROOM],
     seq: u8,
     code: u8,
     content: &[u8],
-) -> Given {
+) -> Sent {
     let mut buf = [0u8; ANSWER_ROOM];
-    let mut sent = [0u8; COMMAND_ROOM];
-    let built = wire::build::build_command(&mut sent, seq, code, content);
+    let mut command = [0u8; COMMAND_ROOM];
+    let built = wire::build::build_command(&mut command, seq, code, content);
     let n = size_of(built);
     if COMMAND_ROOM < n {
-        return not_sent(device);
+        return Sent { kept, number: 8 };
     }
-    let heard = device::hear(device, frame, last, &mut buf, &sent[0..n]);
-    heard.given
-}
-
-fn not_sent(device: Device) -> Given {
-    Given {
-        device,
-        number: 8,
-        count: 0,
+    let heard = device::hear_kept(kept, frame, last, &mut buf, &command[0..n], 0);
+    let hearing = heard.hearing;
+    let given = hearing.given;
+    let device = given.device;
+    let sheet = heard.sheet;
+    Sent {
+        kept: Kept { device, sheet },
+        number: given.number,
     }
 }
 

@@ -1,104 +1,85 @@
 // A fresh device on a line: the raw bytes that it receives on standard input, all that it gives back on standard output, as soon as it
 // is there.
-use device::Device;
-use device::Hearing;
+use device::Kept;
 use libc::STDIN_FILENO;
 use libc::STDOUT_FILENO;
 use reader::FRAME_ROOM;
 use wire::ANSWER_ROOM;
-ghost use Prim.Native.Nat.{_≤_, _<_};
-ghost use lib.ListN.{length};
 
-// The device behind a chunk of bytes, and whether all that it gave back was written.
+// As many bytes are read at once, if they are there.
+const PART_ROOM: usize = 16384;
+
+// All that they can make the device give back: 217 bytes for each of them.
+const OUT_ROOM: usize = 3555328;
+
+// The device and its sheet behind a part of bytes, and whether all that it gave back was written.
 struct Stand {
-    device: Device,
-    written: bool,
-}
-
-// The same behind a call.
-struct Done {
-    heard: Hearing,
+    kept: Kept,
     written: bool,
 }
 
 fn main() {
     let mut frame = [0u8; FRAME_ROOM];
     let mut last = [0u8; ANSWER_ROOM];
-    let mut device = device::fresh();
+    let mut out = [0u8; OUT_ROOM];
+    let mut bytes = [0u8; PART_ROOM];
+    let mut kept = device::fresh_kept();
     let mut turns = 9223372036854775807u64;
     while turns > 0 {
-        let mut chunk = [0u8; 4096];
-        let n = some(&mut chunk);
+        let n = some(&mut bytes);
         if n == 0 {
             return;
         }
-        let stand = answer(device, &mut frame, &mut last, &chunk, n);
+        let stand = answer(kept, &mut frame, &mut last, &bytes, n, &mut out);
         if !stand.written {
             return;
         }
-        let next = stand.device;
-        device = next;
+        let next = stand.kept;
+        kept = next;
         turns -= 1;
     }
 }
 
 // The bytes that are there: none at the end of the input, or where it can't be read.
-fn some(chunk: &mut [u8]) -> usize {
-    let got = libc::read(STDIN_FILENO, chunk);
+fn some(bytes: &mut [u8]) -> usize {
+    let got = libc::read(STDIN_FILENO, bytes);
     if got < 0 {
         os::fail(b"error: standard input can't be read");
     }
-    io::count(got, &*chunk)
+    io::count(got, &*bytes)
 }
 
-// The first n bytes of a chunk, call by call.
+// The first n bytes of a part, and what they give back written out at once.
 fn answer(
-    device: Device,
-    frame: &mut [u8; FRAME_ROOM],
-    last: &mut [u8; ANSWER_ROOM],
-    chunk: &[u8],
-    n: usize,
-) -> Stand {
-    let mut at = device;
-    let mut i = 0;
-    while i < n {
-        if chunk.len() < n {
-            return stands(at, false);
-        }
-        let called = call(at, frame, last, &chunk[i..n]);
-        let heard = called.heard;
-        let given = heard.given;
-        let next = given.device;
-        at = next;
-        i += heard.taken;
-        if !called.written {
-            return stands(at, false);
-        }
-    }
-    stands(at, true)
-}
-
-// One call, and what it gives back written out at once.
-fn call(
-    device: Device,
+    kept: Kept,
     frame: &mut [u8; FRAME_ROOM],
     last: &mut [u8; ANSWER_ROOM],
     bytes: &[u8],
-) -> Done
-    ensures { λ r. ⌜ r .heard .taken ≤ length (now (bytes .entry)) ⌝ }
-    ensures { λ r. ⌜ (0 < length (now (bytes .entry)) → 0 < r .heard .taken) ⌝ }
-{
+    n: usize,
+    out: &mut [u8],
+) -> Stand {
+    if bytes.len() < n {
+        return stands(kept, false);
+    }
     let mut buf = [0u8; ANSWER_ROOM];
-    let heard = device::hear(device, frame, last, &mut buf, bytes);
-    let given = heard.given;
-    let count = given.count;
-    let written = io::write_all(STDOUT_FILENO, &buf[0..count]);
+    let mut none = [0u8; 1];
+    let part = recorder::hear_part(kept, frame, last, &mut buf, &bytes[0..n], out, &mut none[0..0]);
+    let given = part.given;
+    let next = part.kept;
+    if out.len() < given {
+        return stands(next, false);
+    }
+    stands(next, write(&out[0..given]))
+}
+
+fn write(given: &[u8]) -> bool {
+    let written = io::write_all(STDOUT_FILENO, given);
     if !written {
         os::fail(b"error: standard output can't be written");
     }
-    Done { heard, written }
+    written
 }
 
-fn stands(device: Device, written: bool) -> Stand {
-    Stand { device, written }
+fn stands(kept: Kept, written: bool) -> Stand {
+    Stand { kept, written }
 }

@@ -3,9 +3,10 @@ use mathlib.Core.Path.{_≡_, refl, sym, ap, _∙_, subst}
 use mathlib.Core.Bool.{Bool, true, false, cond, _&&_}
 use mathlib.Core.List.{List, []}
 use Prim.Native.Nat.{ℕ, zero, suc, _+_, _-_, _≤_, _<_, min}
+use native.Mathlib.Nat.{zero-add}
 use native.Mathlib.Omega.{arith}
 use lib.Dec.{leb, ltb}
-use lib.ListN.{length, take, drop, length-drop, drop-of-length-le}
+use lib.ListN.{length, take, drop, replicate, length-drop, length-replicate, drop-of-length-le}
 use lib.Seq.{sets, length-sets, drop-drop}
 use borrow.Author.Tests.{leb-true, ltb-true, ltb-false, le-leb, lt-ltb}
 use Rattle.basics.proofs.Tests.{both, and-true}
@@ -15,13 +16,18 @@ use Rattle.line.specs.Turns.{Session, session}
 use Rattle.store.specs.Store.{Store}
 use Rattle.carrying.specs.Carrying.{carry}
 use Rattle.carrying.proofs.Eights.{Eights}
-use Rattle.machine.specs.Device.{enough, stateOf}
+use Rattle.sheet.specs.Sheet.{blank}
+use Rattle.sheet.specs.declared.Line.{Line}
+use Rattle.device.specs.declared.Kept.{Kept}
+use Rattle.machine.specs.Device.{freshFields, enough, stateOf}
 use Rattle.machine.specs.Hearing.{PartHeard, hearing, afterPart, carriedBy}
-use Rattle.machine.proofs.Parts.{behind, Part, part-is, part-long}
+use Rattle.machine.proofs.Parts.{behind, part-is, part-long}
+use Rattle.machine.proofs.Parts as parts
 use Rattle.machine.proofs.Taking.{part-within, part-some}
 use Rattle.machine.proofs.Fitting.{Fits, heard-fits}
-use Rattle.recorder.specs.Recording.{listing, Told}
-use Rattle.recorder.specs.Running.{Running, placeAfter, machineIn, lentIn, behindCall, oneCall, callsLeft, heardThrough}
+use Rattle.recorder.specs.Recording.{recording, listing, Told, toldIn}
+use Rattle.recorder.specs.Running.{Running, placeAfter, machineIn, lentIn, oneCall, callsLeft, heardThrough, startOf, PartLeft, partLeft, partHeard}
+use Rattle.recorder.specs.declared.Part.{Part}
 use Rattle.recorder.proofs.Listening.{onto, onto-behind}
 use Rattle.recorder.proofs.Calling.{fewer-left, run-turn, run-done}
 
@@ -67,9 +73,9 @@ module _ (bytes : List ℕ) (target : Told) (s : Running) (h : Head bytes target
   small : Fits (machineIn s) p
   small = subst (Fits (machineIn s)) is-heard (heard-fits rest (machineIn s) (lentIn s) (h .lasts) (h .eights))
 
-  part : Part (machineIn s) (lentIn s) rest p
+  part : parts.Part (machineIn s) (lentIn s) rest p
   part =
-      subst (Part (machineIn s) (lentIn s) rest) is-heard
+      subst (parts.Part (machineIn s) (lentIn s) rest) is-heard
       (part-is rest (machineIn s) (lentIn s) (h .frames) (h .lasts) (h .room) (h .held) (subst (λ (z : PartHeard). z .after .count ≤ 217) (sym is-heard) (small .few)))
 
   turned : Head bytes target (oneCall bytes s)
@@ -129,3 +135,37 @@ told-at-the-end bytes target s h =
     k .told ∙ ap (λ z. onto (f .out) (f .orders) (f .run .given) (f .run .listed) (session carry (stateOf (machineIn f)) z)) none
     ∙ ap (λ z. record { recorded = record { books = f .run .device .books; given = z; listed = min (f .run .listed + 0) (length (f .orders)) }; out = f .out; orders = f .orders }) all-given
     ∙ ap (λ z. record { recorded = record { books = f .run .device .books; given = f .run .given; listed = z }; out = f .out; orders = f .orders }) all-listed)
+
+-- a fresh device, with arrays and a sheet of these contents
+abbrev pub freshRun : (frame last buffer : List ℕ) → List Line → (bytes out orders : List ℕ) → Running
+freshRun frame last buffer sheet bytes out orders =
+    record { run = startOf freshFields (length bytes); frame = frame; last = last; buffer = buffer; sheet = sheet; out = out; orders = orders }
+
+pub fresh-head : (frame last buffer : List ℕ) (sheet : List Line) (bytes out orders : List ℕ) → length frame ≡ 256 → length last ≡ 217 → 217 ≤ length buffer → 512 ≤ length sheet
+    → Head bytes (toldIn out orders (recording sheet bytes)) (freshRun frame last buffer sheet bytes out orders)
+fresh-head frame last buffer sheet bytes out orders frames lasts room lines =
+    record {
+      within = omega arith;
+      more = refl;
+      frames = frames;
+      lasts = lasts;
+      room = room;
+      lines = lines;
+      held = tt;
+      eights = record { day = refl; groups = refl };
+      given-in = omega arith;
+      listed-in = omega arith;
+      told = simp zero-add;
+    }
+
+-- heard with the sheet by value
+pub all-told : (k : Kept) (frame last buffer bytes out orders : List ℕ) (r : Part) (frame' last' buffer' out' orders' : List ℕ) → k ≡ record { device = freshFields; sheet = replicate 512 blank }
+    → length frame ≡ 256 → length last ≡ 217 → 217 ≤ length buffer
+    → partLeft r frame' last' buffer' out' orders' ≡ partHeard k frame last buffer bytes out orders
+    → record { recorded = record { books = r .kept .device .books; given = r .given; listed = r .listed }; out = out'; orders = orders' } ≡ toldIn out orders (recording (replicate 512 blank) bytes)
+all-told k frame last buffer bytes out orders r frame' last' buffer' out' orders' ek frames lasts room e =
+    let lines : length (replicate 512 blank) ≡ 512 = length-replicate {A = Line} 512 blank in
+    ap (λ (z : PartLeft). record { recorded = record { books = z .part .kept .device .books; given = z .part .given; listed = z .part .listed }; out = z .out; orders = z .orders })
+    (e ∙ ap (λ (z : Kept). partHeard z frame last buffer bytes out orders) ek)
+    ∙ told-at-the-end bytes (toldIn out orders (recording (replicate 512 blank) bytes)) (freshRun frame last buffer (replicate 512 blank) bytes out orders)
+    (fresh-head frame last buffer (replicate 512 blank) bytes out orders frames lasts room (omega (arith, lines)))

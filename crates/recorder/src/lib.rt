@@ -11,10 +11,11 @@ use sheet::Line;
 use wire::ANSWER_ROOM;
 ghost use mathlib.Core.Path.{_≡_};
 ghost use Prim.Native.Nat.{_+_, _≤_, min};
-ghost use lib.ListN.{length};
+ghost use lib.ListN.{length, replicate};
 ghost use lib.Seq.{sets};
 ghost use Rattle.machine.specs.Hearing.{carriedBy};
-ghost use Rattle.recorder.specs.Recording.{listing};
+ghost use Rattle.sheet.specs.Sheet.{blank};
+ghost use Rattle.recorder.specs.Recording.{recording, listing, toldIn};
 ghost use Rattle.recorder.specs.Running.{placeAfter, notedDown, heardThrough, startOf, partLeft, partHeard};
 
 // A part heard so far: the device, the place of the next byte, how many bytes stand in the two lent buffers, and whether there is more.
@@ -176,5 +177,25 @@ pub fn hear_part(
         },
         given: run.given,
         listed: run.listed,
+    }
+}
+
+// A recorded session, heard by a fresh device that is always lent its 217 bytes and a sheet on which nothing stood. What it gives back
+// goes into `out`, the commands carried out into `orders`, as far as each reaches.
+pub fn hear_all(bytes: &[u8], out: &mut [u8], orders: &mut [u8]) -> Recorded
+    ensures { λ r. ⌜ record { recorded = r; out = now (out .exit); orders = now (orders .exit) } ≡ toldIn (now (out .entry)) (now (orders .entry)) (recording (replicate 512 blank) (now (bytes .entry))) ⌝ }
+{
+    let mut frame = [0u8; FRAME_ROOM];
+    let mut last = [0u8; ANSWER_ROOM];
+    let mut buf = [0u8; ANSWER_ROOM];
+    let kept = device::fresh_kept();
+    let part = hear_part(kept, &mut frame, &mut last, &mut buf, bytes, out, orders);
+    let left = part.kept;
+    let device = left.device;
+    let books = device.books;
+    Recorded {
+        books,
+        given: part.given,
+        listed: part.listed,
     }
 }
