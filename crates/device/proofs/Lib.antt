@@ -1,3 +1,4 @@
 pub mod Locals
 pub mod Asked
 pub mod Parts
+pub mod Lending

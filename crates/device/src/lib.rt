@@ -58,3 +58,20 @@ pub fn fresh_kept() -> Kept
         sheet: [line; MOST_LINES],
     }
 }
+
+// What `hear` does, the sheet by value: for callers that cannot lend a slice of records.
+pub fn hear_kept(
+    device: Device,
+    frame: &mut [u8; FRAME_ROOM],
+    last: &mut [u8; ANSWER_ROOM],
+    buf: &mut [u8],
+    sheet: [Line; MOST_LINES],
+    bytes: &[u8],
+    from: usize,
+) -> KeptHearing
+    ensures { λ r. ⌜ (partOf (r .hearing) (now (frame .exit)) (now (last .exit)) (now (buf .exit)) (r .sheet) 512 ≡ afterPart (record { device = device; frame = now (frame .entry); last = now (last .entry); sheet = sheet }) (record { buffer = now (buf .entry); lines = 512 }) (drop from (now (bytes .entry)))) × (r .hearing .given .count ≤ 217) ⌝ }
+{
+    let mut s = sheet;
+    let hearing = hear(device, frame, last, buf, &mut s, bytes, from);
+    KeptHearing { hearing, sheet: s }
+}

@@ -2,3 +2,6 @@ pub mod Listening
 pub mod Calling
 pub mod Through
 pub mod SharedRef
+pub mod Runs
+pub mod Sheets
+pub mod Keeping
