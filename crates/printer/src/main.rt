@@ -21,8 +21,8 @@ struct Stand {
 fn main() {
     let mut frame = [0u8; FRAME_ROOM];
     let mut last = [0u8; ANSWER_ROOM];
-    let mut out = [0u8; OUT_ROOM];
-    let mut bytes = [0u8; PART_ROOM];
+    let mut out = out_room();
+    let mut bytes = part_room();
     let mut kept = device::fresh_kept();
     let mut turns = 9223372036854775807u64;
     while turns > 0 {
@@ -38,6 +38,14 @@ fn main() {
         kept = next;
         turns -= 1;
     }
+}
+
+fn part_room() -> [u8; PART_ROOM] {
+    [0u8; PART_ROOM]
+}
+
+fn out_room() -> [u8; OUT_ROOM] {
+    [0u8; OUT_ROOM]
 }
 
 // The bytes that are there: none at the end of the input, or where it can't be read.
@@ -63,7 +71,15 @@ fn answer(
     }
     let mut buf = [0u8; ANSWER_ROOM];
     let mut none = [0u8; 1];
-    let part = recorder::hear_part(kept, frame, last, &mut buf, &bytes[0..n], out, &mut none[0..0]);
+    let part = recorder::hear_part(
+        kept,
+        frame,
+        last,
+        &mut buf,
+        &bytes[0..n],
+        out,
+        &mut none[0..0],
+    );
     let given = part.given;
     let next = part.kept;
     if out.len() < given {

@@ -5,10 +5,10 @@ use Rattle.printer.proofs.main.Statement.{statement}
 use Rattle.printer.proofs.main.Tie as tie
 
 abbrev Inv-loop : tie.InvT-loop
-Inv-loop frame₀ last₀ device₀ turns₀ frame last device turns = Unit {0}
+Inv-loop frame₀ last₀ out₀ bytes₀ kept₀ turns₀ frame last out bytes kept turns = Unit {0}
 
 abbrev μ-loop : tie.MeasureT-loop
-μ-loop frame₀ last₀ device₀ turns₀ frame last device turns = turns
+μ-loop frame₀ last₀ out₀ bytes₀ kept₀ turns₀ frame last out bytes kept turns = turns
 
 loop-holds : tie.Need-loop-holds Inv-loop μ-loop
 loop-holds c = tt
@@ -38,10 +38,13 @@ main-spec =
     Inv-loop
     μ-loop
     (λ c κs. search needs)
+    (λ c κs. search needs)
+    (λ c κs. search needs)
     loop-holds
     (λ c. search needs)
     (λ c κs. search needs)
     returns
+    (λ c. search needs)
     (λ c. search needs)
     (λ c κs. search needs)
     returns-2

@@ -78,8 +78,19 @@ use Rattle.recorder.proofs.hear_part.Code as code
 use Rattle.recorder.proofs.hear_part.Code.Mir as body
 
 abbrev stayed : Stays (hear-part.ended .signature .params) (hear-part.ended .kept)
-stayed = (stay-dropped (plain (λ _. K.the-row)) yes, (gave-ref (0 ∷ []) tt (arrayOf (plain (λ _. u8)) 256), (gave-ref (1 ∷ []) tt (arrayOf (plain (λ _. u8)) 217), (gave-slice (2 ∷ []) tt (plain (λ _. u8)),
-    (stay-dropped (shrSliceOf (3 ∷ []) tt (plain (λ _. u8))) yes, (gave-slice (4 ∷ []) tt (plain (λ _. u8)), (gave-slice (5 ∷ []) tt (plain (λ _. u8)), tt)))))))
+stayed = (
+  stay-dropped (plain (λ _. K.the-row)) yes,
+  (
+    gave-ref (0 ∷ []) tt (arrayOf (plain (λ _. u8)) 256),
+    (
+      gave-ref (1 ∷ []) tt (arrayOf (plain (λ _. u8)) 217),
+      (
+        gave-slice (2 ∷ []) tt (plain (λ _. u8)),
+        (stay-dropped (shrSliceOf (3 ∷ []) tt (plain (λ _. u8))) yes, (gave-slice (4 ∷ []) tt (plain (λ _. u8)), (gave-slice (5 ∷ []) tt (plain (λ _. u8)), tt))),
+      ),
+    ),
+  ),
+)
 
 abbrev Bytes : Type 0
 Bytes = RefT (List ℕ)
@@ -198,8 +209,16 @@ module _ {M : Type 1} (𝓤 : URA M) (H : Heap 𝓤) (A : Atoms 𝓤) (W : Given
       nothing ! $ join ! $ nothing ! $ move ! (1 ∷ 0 ∷ []) $ join ! $ done !
 
   abbrev to-run : ℕ → ℕ → GName → Run → Val → Hear 𝓤 H A at-mem run .Ghost
-  to-run m ν γ g v = (((κf, (κl, (κo, (ν ∷ [], (κb, (κu, (κr, tt))))))), (qf, (ql, (qo, (fullShare, (qb, (qu, (qr, tt))))))), tt, (g, (f, (l, (y, (lent m γ, (z, (u, (r, tt)))))))),
-      (v ∷ [], (ptr-vals f, (ptr-vals l, (sliceVal (y .ptr) (length (y .now)) ∷ [], (sliceVal (m, 0) (length xs) ∷ [], (sliceVal (z .ptr) (length (z .now)) ∷ [], (sliceVal (u .ptr) (length (u .now)) ∷ [], (sliceVal (r .ptr) (length (r .now)) ∷ [], tt))))))))), tt)
+  to-run m ν γ g v = (
+    (
+      (κf, (κl, (κo, (ν ∷ [], (κb, (κu, (κr, tt))))))),
+      (qf, (ql, (qo, (fullShare, (qb, (qu, (qr, tt))))))),
+      tt,
+      (g, (f, (l, (y, (lent m γ, (z, (u, (r, tt)))))))),
+      (v ∷ [], (ptr-vals f, (ptr-vals l, (sliceVal (y .ptr) (length (y .now)) ∷ [], (sliceVal (m, 0) (length xs) ∷ [], (sliceVal (z .ptr) (length (z .now)) ∷ [], (sliceVal (u .ptr) (length (u .now)) ∷ [], (sliceVal (r .ptr) (length (r .now)) ∷ [], tt)))))))),
+    ),
+    tt,
+  )
 
   goes-run : (m ν : ℕ) (γ : GName) (g : Run) (v : Val) → Is R.the-row g (v ∷ [])
       → ent 𝓤 (sep 𝓤 (sep 𝓤 (sep 𝓤 (sep 𝓤 (sep 𝓤 (sep 𝓤 (sep 𝓤 (sem 𝓤 H A Frame) (sem 𝓤 H A Last)) (sem 𝓤 H A Buf)) (sem 𝓤 H A (Sheet m ν γ))) (sem 𝓤 H A Bytes-own)) (sem 𝓤 H A Outs)) (sem 𝓤 H A Orders))
@@ -287,8 +306,19 @@ module _ {M : Type 1} (𝓤 : URA M) (H : Heap 𝓤) (A : Atoms 𝓤) (W : Given
 hear-part-meets : {M : Type 1} (𝓤 : URA M) (H : Heap 𝓤) (A : Atoms 𝓤) → Given 𝓤 H A → (at-mem : Memory → SProp 𝓤) (run : Routine → Fun 𝓤) (𝓣 : Tables 𝓤 H) → Triple 𝓤 (𝓣 .C #start) (Start 𝓤 H A at-mem run) → Triple 𝓤 (𝓣 .C #hear-run) (Hear 𝓤 H A at-mem run)
     → Meets 𝓤 H A hear-part.signature (WpFn 𝓤 H (𝓣 .C) (𝓣 .Λ) code.function) (hear-part.spec 𝓤 H A at-mem run)
 hear-part-meets 𝓤 H A W at-mem run 𝓣 known-start known-run =
-    walk-meets 𝓤 H A hear-part.ended stayed W (goes-dropped 𝓤 H A W 6 (plain (λ _. K.the-row)) yes (λ κs x f. refl), (goes-gave-ref 𝓤 H A W 6 0 tt (arrayOf (plain (λ _. u8)) 256), (goes-gave-ref 𝓤 H A W 6 1 tt (arrayOf (plain (λ _. u8)) 217), (goes-gave-slice 𝓤 H A W 6 2 tt (plain (λ _. u8)),
-    (goes-dropped 𝓤 H A W 6 (shrSliceOf (3 ∷ []) tt (plain (λ _. u8))) yes (λ κs x f. refl), (goes-gave-slice 𝓤 H A W 6 4 tt (plain (λ _. u8)), (goes-gave-slice 𝓤 H A W 6 5 tt (plain (λ _. u8)), tt)))))))
+    walk-meets 𝓤 H A hear-part.ended stayed W (
+      goes-dropped 𝓤 H A W 6 (plain (λ _. K.the-row)) yes (λ κs x f. refl),
+      (
+        goes-gave-ref 𝓤 H A W 6 0 tt (arrayOf (plain (λ _. u8)) 256),
+        (
+          goes-gave-ref 𝓤 H A W 6 1 tt (arrayOf (plain (λ _. u8)) 217),
+          (
+            goes-gave-slice 𝓤 H A W 6 2 tt (plain (λ _. u8)),
+            (goes-dropped 𝓤 H A W 6 (shrSliceOf (3 ∷ []) tt (plain (λ _. u8))) yes (λ κs x f. refl), (goes-gave-slice 𝓤 H A W 6 4 tt (plain (λ _. u8)), (goes-gave-slice 𝓤 H A W 6 5 tt (plain (λ _. u8)), tt))),
+          ),
+        ),
+      ),
+    )
     (hear-part.clauses 𝓤 H A at-mem run) (WpFn 𝓤 H (𝓣 .C) (𝓣 .Λ) code.function) (WpFn-mono 𝓤 H (W .laws) 𝓣 code.function) (hear-part-walks 𝓤 H A W at-mem run 𝓣 known-start known-run)
 
 pub hear-part-spec : {M : Type 1} → stated.statement M
