@@ -1,6 +1,6 @@
 -- Calls until all is heard: each takes the run nearer to its end, and so they are as many as `heardThrough` makes.
-use mathlib.Core.Path.{_≡_, refl, sym, ap, _∙_}
-use mathlib.Core.Bool.{Bool, true, false, cond, _&&_, false≢true}
+use mathlib.Core.Path.{_≡_, refl, sym, ap, _∙_, subst}
+use mathlib.Core.Bool.{Bool, true, false, cond, _&&_}
 use mathlib.Core.List.{List}
 use Prim.Native.Nat.{ℕ, zero, suc, _+_, _-_, _≤_, _<_}
 use native.Mathlib.Omega.{arith}
@@ -86,3 +86,13 @@ module _ (bytes : List ℕ) where
   call-is s h frame last buffer sheet n e en =
       ap (λ (z : NotedDown). record { run = z .run; frame = frame; last = last; buffer = buffer; sheet = sheet; out = z .out; orders = z .orders }) en
       ∙ ap (behindCall s (length bytes)) e
+
+  -- so the loop keeps where all calls end, comes nearer, and stops there
+  pub still : (first s next : Running) → s .run .more ≡ true → next ≡ oneCall bytes s → heardThrough bytes first ≡ heardThrough bytes s → heardThrough bytes first ≡ heardThrough bytes next
+  still first s next more e inv = inv ∙ run-turn s more ∙ ap (heardThrough bytes) (sym e)
+
+  pub fewer : (s next : Running) → s .run .more ≡ true → next ≡ oneCall bytes s → callsLeft bytes next < callsLeft bytes s
+  fewer s next more e = subst (λ (z : Running). callsLeft bytes z < callsLeft bytes s) (sym e) (fewer-left s more)
+
+  pub all-heard : (first s : Running) → s .run .more ≡ false → heardThrough bytes first ≡ heardThrough bytes s → s ≡ heardThrough bytes first
+  all-heard first s over inv = sym (inv ∙ run-done s over)

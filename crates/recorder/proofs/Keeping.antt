@@ -15,7 +15,7 @@ use Rattle.sheet.proofs.Line.Laws as T′
 use Rattle.machine.specs.declared.Device.{Device}
 use Rattle.machine.proofs.Device as D
 use Rattle.machine.proofs.Device.Laws as D′
-use Rattle.recorder.specs.Running.{Running, heardThrough, startOf, PartLeft, handedBack, partHeard}
+use Rattle.recorder.specs.Running.{Running, heardThrough, startOf, handedBack, partHeard}
 use Rattle.recorder.specs.declared.Run.{Run}
 use Rattle.recorder.specs.declared.Part.{Part}
 use Rattle.device.specs.declared.Kept.{Kept}

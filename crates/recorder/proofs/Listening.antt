@@ -1,27 +1,21 @@
 -- Laws of a whole recording: bytes appended as far as there is room, and a turn of the loop.
-use mathlib.Core.Path.{_≡_, refl, sym, ap, _∙_, subst}
+use mathlib.Core.Path.{_≡_, refl, sym, ap, _∙_}
 use mathlib.Core.List.{List, [], _∷_, _++_, append-nil, append-assoc}
-use Prim.Native.Nat.{ℕ, _+_, _-_, _%_, _≤_, _<_, min}
+use Prim.Native.Nat.{ℕ, _+_, _-_, _%_, _<_, min}
 use native.Mathlib.Decide.{decLt}
-use native.Mathlib.Nat.{zero-add}
 use native.Mathlib.Omega.{arith}
-use lib.ListN.{length, take, drop, replicate, length-append, length-drop, length-take, length-replicate, drop-of-length-le}
-use lib.Seq.{sets, length-sets, drop-drop}
+use lib.ListN.{length, take, drop, length-append, length-drop, length-take}
+use lib.Seq.{sets, length-sets}
 use Rattle.text.proofs.Laws.{sets-append, sets-out}
 use Rattle.wire.specs.Frame.{Message}
-use Rattle.wire.specs.declared.Way.the-variants.{ToDevice}
-use Rattle.reader.proofs.Holding.{Underway}
-use Rattle.line.specs.Turns.{Session, session}
+use Rattle.line.specs.Turns.{Session}
 use Rattle.line.specs.declared.Call.{Call}
 use Rattle.line.specs.declared.Call.the-variants.{Order}
 use Rattle.store.specs.Store.{Store}
-use Rattle.carrying.specs.Carrying.{carry}
-use Rattle.machine.specs.Device.{Lent, Machine, freshFields, stateOf}
-use Rattle.machine.specs.Hearing.{PartHeard, hearing, afterPart, carriedBy}
-use Rattle.machine.specs.declared.Device.{Device}
-use Rattle.machine.proofs.Working.{take-min, take-all}
-use Rattle.machine.proofs.Parts.{behind, Part, part-is, part-long}
-use Rattle.recorder.specs.Recording.{recording, listed, listing, Told, toldIn}
+use Rattle.machine.specs.Hearing.{carriedBy}
+use Rattle.machine.proofs.Working.{take-min}
+use Rattle.machine.proofs.Parts.{behind}
+use Rattle.recorder.specs.Recording.{listed, listing, Told}
 
 -- bytes appended, as far as there is room
 sets-capped : (l : List ℕ) (n : ℕ) (vs : List ℕ) → sets l (min n (length l)) vs ≡ sets l n vs

@@ -23,7 +23,7 @@ use denote.ArrayMemory.{array-apart, array-whole}
 use denote.Index.{row, whole-out, whole-in}
 use denote.Memory.{mem, shares, cellAt, partAt, partOf}
 use denote.Slice.{Room}
-use denote.Steps.{owned, facts, only}
+use denote.Steps.{owned, facts}
 use denote.Struct.Field.{Field, array-field}
 use denote.Struct.Laws as LL
 use denote.Struct.Steps.{spelt}

@@ -8,8 +8,8 @@ use native.Mathlib.Omega.{arith}
 use lib.Dec.{leb, ltb}
 use lib.ListN.{length, take, drop, replicate, length-drop, length-replicate, drop-of-length-le}
 use lib.Seq.{sets, length-sets, drop-drop}
-use borrow.Author.Tests.{leb-true, ltb-true, ltb-false, le-leb, lt-ltb}
-use Rattle.basics.proofs.Tests.{both, and-true}
+use borrow.Author.Tests.{ltb-true, ltb-false, le-leb, lt-ltb}
+use Rattle.basics.proofs.Tests.{and-true}
 use Rattle.wire.specs.declared.Way.the-variants.{ToDevice}
 use Rattle.reader.proofs.Holding.{Underway}
 use Rattle.line.specs.Turns.{Session, session}

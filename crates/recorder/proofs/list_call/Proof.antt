@@ -1,6 +1,5 @@
 use mathlib.Core.Path.{ap}
 use denote.Ref.{now}
-use native.Mathlib.Omega.{arith}
 use Rattle.machine.specs.Hearing.{carriedBy}
 use Rattle.recorder.specs.Recording.{listing}
 use Rattle.recorder.proofs.Listening.{list-none, list-order}

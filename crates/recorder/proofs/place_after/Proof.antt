@@ -1,11 +1,9 @@
 use mathlib.Core.Path.{_≡_, refl, sym, ap, _∙_}
-use mathlib.Core.Bool.{Bool, true, false, cond}
+use mathlib.Core.Bool.{Bool, cond}
 use Prim.Native.Nat.{ℕ, _+_, _-_, _≤_, _<_}
 use native.Mathlib.Omega.{arith}
-use lib.Dec.{leb}
 use borrow.Author.Tests.{le-leb, lt-leb}
 use Rattle.recorder.specs.Running.{placeAfter}
-use borrow.Author.Needs.{needs}
 use Rattle.recorder.proofs.place_after.Statement.{statement}
 use Rattle.recorder.proofs.place_after.Tie as tie
 
