@@ -86,7 +86,7 @@ module _ {M : Type 1} (𝓤 : URA M) (H : Heap 𝓤) (A : Atoms 𝓤) (W : Given
   abbrev pub lent : RefT (List Line)
   lent = record { ptr = (p, 0); name = γ; now = xs }
 
-  abbrev pub s : Val
+  abbrev s : Val
   s = sliceVal (p, 0) (length xs)
 
   abbrev pub Lent : Fml

@@ -8,6 +8,7 @@ use wire::ANSWER_ROOM;
 ghost use mathlib.Core.Path.{_≡_};
 ghost use Prim.Native.Nat.{_≤_};
 ghost use lib.ListN.{length, drop, replicate};
+ghost use Rattle.line.specs.declared.Call.the-variants.{Quiet};
 ghost use Rattle.sheet.specs.Sheet.{blank};
 ghost use Rattle.machine.specs.Device.{freshFields};
 ghost use Rattle.machine.specs.Hearing.{partOf, afterPart};
@@ -74,4 +75,20 @@ pub fn hear_kept(
     let mut s = sheet;
     let hearing = hear(device, frame, last, buf, &mut s, bytes, from);
     KeptHearing { hearing, sheet: s }
+}
+
+// What `hear` does where the sheet that is lent is too short: 7, no byte is taken, and everything stays (PROTOCOL 2.4).
+pub fn hear_short(
+    device: Device,
+    frame: &mut [u8; FRAME_ROOM],
+    last: &mut [u8; ANSWER_ROOM],
+    buf: &mut [u8],
+    bytes: &[u8],
+    from: usize,
+) -> Hearing
+    ensures { λ r. ⌜ (r ≡ record { given = record { device = device; number = 7; count = 0 }; call = Quiet; taken = 0 }) × ((now (frame .exit) ≡ now (frame .entry)) × ((now (last .exit) ≡ now (last .entry)) × (now (buf .exit) ≡ now (buf .entry)))) ⌝ }
+{
+    let line = sheet::blank_line();
+    let mut s = [line; 1];
+    hear(device, frame, last, buf, &mut s, bytes, from)
 }

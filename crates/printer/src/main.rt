@@ -5,6 +5,8 @@ use libc::STDIN_FILENO;
 use libc::STDOUT_FILENO;
 use reader::FRAME_ROOM;
 use wire::ANSWER_ROOM;
+ghost use mathlib.Core.Path.{_≡_};
+ghost use lib.ListN.{length};
 
 // As many bytes are read at once, if they are there.
 const PART_ROOM: usize = 16384;
@@ -40,11 +42,15 @@ fn main() {
     }
 }
 
-fn part_room() -> [u8; PART_ROOM] {
+fn part_room() -> [u8; PART_ROOM]
+    ensures { λ r. ⌜ length r ≡ 16384 ⌝ }
+{
     [0u8; PART_ROOM]
 }
 
-fn out_room() -> [u8; OUT_ROOM] {
+fn out_room() -> [u8; OUT_ROOM]
+    ensures { λ r. ⌜ length r ≡ 3555328 ⌝ }
+{
     [0u8; OUT_ROOM]
 }
 

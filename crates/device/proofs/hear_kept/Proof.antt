@@ -58,7 +58,7 @@ use Rattle.machine.proofs.Hearing.Laws as N′
 use Rattle.device.specs.declared.KeptHearing.{KeptHearing}
 use Rattle.device.proofs.KeptHearing as K
 use Rattle.device.proofs.KeptHearing.Laws as K′
-use Rattle.device.proofs.Lending.{Lines, avals, aval, lies, holds, Hear, lent, s, Lent, to-hear, goes-hear}
+use Rattle.device.proofs.Lending.{Lines, avals, aval, lies, holds, Hear, lent, Lent, to-hear, goes-hear}
 use Rattle.device.proofs.Locals.{typeOf}
 use Rattle.device.proofs.hear as hear
 use Rattle.device.proofs.hear.Symbol as hear-def
