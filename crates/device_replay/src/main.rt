@@ -152,22 +152,26 @@ fn lend(
     requires { ⌜ length (now buf) ≡ 65536 ⌝ }
 {
     let bytes = [byte];
-    let part = &mut buf[0..room];
+    let device = kept.device;
     if lines < MOST_LINES {
-        let device = kept.device;
-        let short = device::hear_short(device, frame, last, part, &bytes, 0);
+        let short = device::hear_short(device, frame, last, &mut buf[0..room], &bytes, 0);
         let given = short.given;
-        return told(kept, given, &*buf);
+        return written(kept, given, &*buf);
     }
-    let heard = device::hear_kept(kept, frame, last, part, &bytes, 0);
+    let sheet = kept.sheet;
+    let heard = device::hear_kept(device, frame, last, &mut buf[0..room], sheet, &bytes, 0);
     let hearing = heard.hearing;
     let given = hearing.given;
-    let device = given.device;
-    let sheet = heard.sheet;
-    told(Kept { device, sheet }, given, &*buf)
+    let next = given.device;
+    let left = heard.sheet;
+    let after = Kept {
+        device: next,
+        sheet: left,
+    };
+    written(after, given, &*buf)
 }
 
-fn told(kept: Kept, given: Given, buf: &[u8]) -> Told {
+fn written(kept: Kept, given: Given, buf: &[u8]) -> Told {
     Told {
         kept,
         written: say(given, buf),

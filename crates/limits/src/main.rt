@@ -77,13 +77,18 @@ fn send(
     if COMMAND_ROOM < n {
         return Sent { kept, number: 8 };
     }
-    let heard = device::hear_kept(kept, frame, last, &mut buf, &command[0..n], 0);
+    let device = kept.device;
+    let sheet = kept.sheet;
+    let heard = device::hear_kept(device, frame, last, &mut buf, sheet, &command[0..n], 0);
     let hearing = heard.hearing;
     let given = hearing.given;
-    let device = given.device;
-    let sheet = heard.sheet;
+    let next = given.device;
+    let lines = heard.sheet;
     Sent {
-        kept: Kept { device, sheet },
+        kept: Kept {
+            device: next,
+            sheet: lines,
+        },
         number: given.number,
     }
 }

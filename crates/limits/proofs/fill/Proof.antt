@@ -5,10 +5,10 @@ use Rattle.limits.proofs.fill.Statement.{statement}
 use Rattle.limits.proofs.fill.Tie as tie
 
 abbrev Inv-loop : tie.InvT-loop
-Inv-loop sale frame₀ last₀ given₀ taken₀ frame last given taken = taken ≤ 1000
+Inv-loop sale frame₀ last₀ sent₀ taken₀ frame last sent taken = taken ≤ 1000
 
 abbrev μ-loop : tie.MeasureT-loop
-μ-loop sale frame₀ last₀ given₀ taken₀ frame last given taken = 1000 - taken
+μ-loop sale frame₀ last₀ sent₀ taken₀ frame last sent taken = 1000 - taken
 
 pub fill-spec : {M : Type 1} → statement M
 fill-spec =
