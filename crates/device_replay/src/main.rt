@@ -1,6 +1,7 @@
 // A device told of a list of events, and what it gives back on each. An event is 42h and a byte: all that it asks for is lent; or 53h, k, a
 // length of two bytes and a byte: one thing is lent at this length, of k 0 the buffer in bytes, of k 1 the sheet in lines.
 use device::Kept;
+use device::KeptHearing;
 use libc::STDERR_FILENO;
 use libc::STDIN_FILENO;
 use libc::STDOUT_FILENO;
@@ -151,31 +152,64 @@ fn lend(
     requires { ⌜ room < 65536 ⌝ }
     requires { ⌜ length (now buf) ≡ 65536 ⌝ }
 {
+    if lines < MOST_LINES {
+        return lend_short(kept, room, frame, last, byte, buf);
+    }
+    lend_whole(kept, room, frame, last, byte, buf)
+}
+
+// The same with a sheet that is too short.
+fn lend_short(
+    kept: Kept,
+    room: usize,
+    frame: &mut [u8; FRAME_ROOM],
+    last: &mut [u8; ANSWER_ROOM],
+    byte: u8,
+    buf: &mut [u8],
+) -> Told
+    requires { ⌜ room < 65536 ⌝ }
+    requires { ⌜ length (now buf) ≡ 65536 ⌝ }
+{
     let bytes = [byte];
     let device = kept.device;
-    if lines < MOST_LINES {
-        let short = device::hear_short(device, frame, last, &mut buf[0..room], &bytes, 0);
-        let given = short.given;
-        return written(kept, given, &*buf);
+    let short = device::hear_short(device, frame, last, &mut buf[0..room], &bytes, 0);
+    let given = short.given;
+    Told {
+        kept,
+        written: say(given, &*buf),
     }
+}
+
+// The same with all lines.
+fn lend_whole(
+    kept: Kept,
+    room: usize,
+    frame: &mut [u8; FRAME_ROOM],
+    last: &mut [u8; ANSWER_ROOM],
+    byte: u8,
+    buf: &mut [u8],
+) -> Told
+    requires { ⌜ room < 65536 ⌝ }
+    requires { ⌜ length (now buf) ≡ 65536 ⌝ }
+{
+    let bytes = [byte];
+    let device = kept.device;
     let sheet = kept.sheet;
     let heard = device::hear_kept(device, frame, last, &mut buf[0..room], sheet, &bytes, 0);
     let hearing = heard.hearing;
     let given = hearing.given;
-    let next = given.device;
-    let left = heard.sheet;
-    let after = Kept {
-        device: next,
-        sheet: left,
-    };
-    written(after, given, &*buf)
+    Told {
+        kept: behind(heard),
+        written: say(given, &*buf),
+    }
 }
 
-fn written(kept: Kept, given: Given, buf: &[u8]) -> Told {
-    Told {
-        kept,
-        written: say(given, buf),
-    }
+fn behind(heard: KeptHearing) -> Kept {
+    let hearing = heard.hearing;
+    let given = hearing.given;
+    let device = given.device;
+    let sheet = heard.sheet;
+    Kept { device, sheet }
 }
 
 // The reply number, the count, as many bytes; then 00h, for no text is shown.
