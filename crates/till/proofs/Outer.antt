@@ -99,11 +99,15 @@ not-refused next seq code bytes tries failed = go (ltb tries 5)
 not-refused next seq code bytes tries (goesOn ear) = refl
 not-refused next seq code bytes tries (answers m) = refl
 
-pub said-on : (t : Till) (next seq code : ℕ) (bytes : List ℕ) (tries : ℕ) (m : Meaning)
+said-on : (t : Till) (next seq code : ℕ) (bytes : List ℕ) (tries : ℕ) (m : Meaning)
     → spoken (onMeaning next seq code bytes tries m) ≡ saidOf t (onMeaning next seq code bytes tries m)
 said-on t next seq code bytes tries m =
     let x : Turn = onMeaning next seq code bytes tries m in
     ap (λ c. record { till = cond c t (tillOf (x .state)); word = x .word }) (sym (not-refused next seq code bytes tries m))
+
+pub said-held : (t : Till) (r : Said) (x : Turn) (next seq code : ℕ) (bytes : List ℕ) (tries : ℕ) (m : Meaning) → x ≡ onMeaning next seq code bytes tries m
+    → r ≡ spoken (onMeaning next seq code bytes tries m) → r ≡ saidOf t x
+said-held t r x next seq code bytes tries m e p = p ∙ said-on t next seq code bytes tries m ∙ ap (saidOf t) (sym e)
 
 -- and one that is sent, or is not
 abbrev bySendable : ℕ → Message → Bool → Turn

@@ -17,6 +17,14 @@ cast-count c =
     let built = built-frame (a .next) (a .code) (now (a .content)) (now (a .frame)) size _ _ _ (c .before .built .given .1) (c .before .before .before .build-command .ensures) in
     omega (arith, built .1 .0, frame-size ToDevice (commandOf (a .next) (a .code) (now (a .content))) (built .0) .1)
 
+put-part-requires : tie.Need-put-part-requires
+put-part-requires c κs =
+    let made = c .before .before .before .before in
+    let a = made .before .before .before .before .before .before .args in
+    let size : length (now (a .frame)) ≡ 256 = omega arith in
+    let built = built-frame (a .next) (a .code) (now (a .content)) (now (a .frame)) size _ _ _ (made .built .given .1) (made .before .before .build-command .ensures) in
+    omega (arith, built .1 .0, frame-size ToDevice (commandOf (a .next) (a .code) (now (a .content))) (built .0) .1)
+
 returns : tie.Need-returns
 returns c =
     let a = c .before .before .before .before .before .before .before .args in
@@ -38,7 +46,7 @@ returns-3 c =
     let a = made .before .before .before .before .before .before .args in
     let size : length (now (a .frame)) ≡ 256 = omega arith in
     let built = built-frame (a .next) (a .code) (now (a .content)) (now (a .frame)) size _ _ _ (made .built .given .1) (made .before .before .build-command .ensures) in
-    let all = says-sent (a .next) (a .code) (now (a .content)) (now (a .frame)) size (built .0) _ (built .1 .0) _ (now (a .buf)) _ (built .1 .1) (handed .hand-out .ensures) _ (c .before .seq-after .ensures) _ (c .before .before .listen .ensures) in
+    let all = says-sent (a .next) (a .code) (now (a .content)) (now (a .frame)) size (built .0) _ (built .1 .0) _ (now (a .buf)) _ (built .1 .1) (handed .put-part .ensures) _ (c .before .seq-after .ensures) _ (c .before .before .listen .ensures) in
     (c .held .ensures ∙ all .0, all .1)
 
 pub send-spec : {M : Type 1} → statement M
@@ -52,7 +60,7 @@ send-spec =
     (λ c κs. search needs)
     (λ c. search needs)
     cast-count
-    (λ c κs. search needs)
+    put-part-requires
     (λ c κs. search needs)
     (λ c κs. search needs)
     (λ c κs. search needs)

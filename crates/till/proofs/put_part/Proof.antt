@@ -1,19 +1,20 @@
 use mathlib.Core.Path.{_∙_}
 use denote.Ref.{now}
-use Rattle.till.proofs.Turning.{put-front}
+use Rattle.till.proofs.Turning.{put-part}
 use borrow.Author.Needs.{needs}
-use Rattle.till.proofs.hand_out.Statement.{statement}
-use Rattle.till.proofs.hand_out.Tie as tie
+use Rattle.till.proofs.put_part.Statement.{statement}
+use Rattle.till.proofs.put_part.Tie as tie
 
 returns : tie.Need-returns
 returns c =
     let a = c .before .before .before .before .before .before .before .args in
-    c .before .before .put-bytes .ensures ∙ put-front (now (a .buf)) (now (a .frame)) (a .count)
+    c .before .before .put-bytes .ensures ∙ put-part (now (a .buf)) (now (a .from)) (a .start) (a .n) (a .at)
 
-pub hand-out-spec : {M : Type 1} → statement M
-hand-out-spec =
+pub put-part-spec : {M : Type 1} → statement M
+put-part-spec =
     tie.close
     (tie.spec
+    (λ c. search needs)
     (λ c. search needs)
     (λ c. search needs)
     (λ c. search needs)
