@@ -154,22 +154,18 @@ fn send(next: u8, frame: &mut [u8; FRAME_ROOM], code: u8, content: &[u8], buf: &
     ensures { λ r. ⌜ now (buf .exit) ≡ sets (now (buf .entry)) 0 (sentBy next code (now (content .entry)) .puts) ⌝ }
 {
     let built = wire::build::build_command(frame, next, code, content);
-    match built {
-        Built::Short => free(next, Word::NotSent),
-        Built::Unsendable => free(next, Word::NotSent),
-        Built::Frame(n) => {
-            let count = n as u8;
-            put_part(&*frame, 0, n, buf, 0);
-            let first = Attempt {
-                seq: next,
-                code,
-                tries: 1,
-                count,
-                ear: listen(),
-            };
-            held(seq_after(next), first, Word::Waiting(n))
-        }
-    }
+    let Built::Frame(n) = built else {
+        return free(next, Word::NotSent);
+    };
+    put_part(&*frame, 0, n, buf, 0);
+    let first = Attempt {
+        seq: next,
+        code,
+        tries: 1,
+        count: n as u8,
+        ear: listen(),
+    };
+    held(seq_after(next), first, Word::Waiting(n))
 }
 
 // What is said where a command waits.
