@@ -269,9 +269,9 @@ fn hear(
     let heard = taken.heard;
     let verdict = judge(nak_outside(reader.inside, b), a.seq, a.code, b, heard);
     match verdict {
-        Verdict::Fails => failed_try(next, a, frame, buf),
-        Verdict::GoesOn => goes_on(next, a, taken),
-        Verdict::Answers(n) => answered(next, &*answer, n, buf),
+        Verdict::Fails => return failed_try(next, a, frame, buf),
+        Verdict::GoesOn => return goes_on(next, a, taken),
+        Verdict::Answers(n) => return answered(next, &*answer, n, buf),
     }
 }
 

@@ -14,12 +14,6 @@ ghost use lib.ListN.{length};
 // The longest event: a command with 255 data bytes.
 const EVENT_ROOM: usize = 259;
 
-// What was said of an event: the till end afterwards, and whether it was written.
-struct Told {
-    till: Till,
-    written: bool,
-}
-
 // Events are read one by one to the end of the input.
 fn main() {
     let mut frame = [0u8; FRAME_ROOM];
@@ -34,12 +28,13 @@ fn main() {
             ended(n, events);
             return;
         }
-        let told = tell(till, &mut frame, &mut answer, &event, n, &mut buf);
-        if !told.written {
+        let said = happen(till, &mut frame, &mut answer, &event, n, &mut buf);
+        let word = said.word;
+        if !say(word, &buf) {
             unwritten();
             return;
         }
-        let after = told.till;
+        let after = said.till;
         till = after;
         events += 1;
     }
@@ -119,28 +114,6 @@ fn wide(b: u8) -> usize
 }
 
 // One event, its first n bytes. What is lent is the front of the buffer.
-fn tell(
-    till: Till,
-    frame: &mut [u8; FRAME_ROOM],
-    answer: &mut [u8; FRAME_ROOM],
-    event: &[u8],
-    n: usize,
-    buf: &mut [u8],
-) -> Told
-    requires { ⌜ length (now event) ≡ 259 ⌝ }
-    requires { ⌜ n < 260 ⌝ }
-    requires { ⌜ length (now buf) ≡ 256 ⌝ }
-{
-    let lent = wide(event[0]);
-    let said = happen(till, frame, answer, event, n, &mut buf[0..lent]);
-    let after = said.till;
-    let word = said.word;
-    Told {
-        till: after,
-        written: say(word, &*buf),
-    }
-}
-
 fn happen(
     till: Till,
     frame: &mut [u8; FRAME_ROOM],
@@ -151,14 +124,17 @@ fn happen(
 ) -> Said
     requires { ⌜ length (now event) ≡ 259 ⌝ }
     requires { ⌜ n < 260 ⌝ }
+    requires { ⌜ length (now buf) ≡ 256 ⌝ }
 {
+    let end = wide(event[0]);
+    let lent = &mut buf[0..end];
     if n < 3 {
-        return till::timeout(till, &*frame, buf);
+        return till::timeout(till, &*frame, lent);
     }
     if n < 4 {
-        return till::byte(till, &*frame, answer, event[2], buf);
+        return till::byte(till, &*frame, answer, event[2], lent);
     }
-    till::command(till, frame, event[3], &event[4..n], buf)
+    till::command(till, frame, event[3], &event[4..n], lent)
 }
 
 // The reply number, the word, the count, and the bytes put in the buffer; of Unfinished the tries alone.

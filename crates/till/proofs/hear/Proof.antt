@@ -55,11 +55,11 @@ hear-spec =
     (λ c. search needs)
     (λ c κs. search needs)
     (λ c. search needs)
+    returns
+    (λ c. search needs)
     (λ c κs. search needs)
+    returns-2
     (λ c. search needs)
     answered-requires
-    (λ c. search needs)
-    returns
-    returns-2
     (λ c. search needs)
     returns-3)
