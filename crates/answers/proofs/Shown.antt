@@ -20,7 +20,7 @@ use Rattle.books.specs.declared.Shown.{Shown}
 use Rattle.books.specs.declared.Shown.the-variants as shown
 use Rattle.answers.specs.Contents.{commaEach, commas, taxesFrom, ratesText, letter, contentOf}
 use Rattle.books.specs.Books.{fiscalOpen, textOpen}
-use Rattle.answers.specs.Status.{bit, tellsSyntax, tellsUnknown, tellsOverflow, tellsRefused, anyVerdict, verdict0, verdict1, receipts, fewFree, memories, statusOf}
+use Rattle.status.specs.Status.{bit, tellsSyntax, tellsUnknown, tellsOverflow, tellsRefused, anyVerdict, verdict0, verdict1, receipts, fewFree, memories, statusOf}
 
 -- a field shows its number exactly where the number fits
 pub field-shows : (width n : ℕ) → (n < 10 ^ width → number 0 (digits width n) ≡ n) × (number 0 (digits width n) ≡ n → n < 10 ^ width)

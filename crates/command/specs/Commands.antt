@@ -5,7 +5,7 @@ use mathlib.Core.List.{List, []}
 use lib.Dec.{eqb}
 use Rattle.labels.specs.Texts.{onlyLine, firstLine, secondLine}
 use Rattle.kinds.specs.Plain.{bareOf, textOf, openOf, subtotalOf, sumsOf, closingOf}
-use Rattle.command.specs.Money.{sellOf, payOf, drawerOf}
+use Rattle.money.specs.Money.{sellOf, payOf, drawerOf}
 use Rattle.kinds.specs.declared.Command.the-variants.{OpenText, CloseText, Close, Cancel, Status, Rates}
 use Rattle.kinds.specs.declared.Parsed.{Parsed}
 use Rattle.kinds.specs.declared.Parsed.the-variants.{Unknown}

@@ -1,6 +1,4 @@
 // What the data of a command means, and its texts (PROTOCOL 5.1, 4.7).
-pub mod money;
-
 use kinds::Command;
 use kinds::Parsed;
 use kinds::plain;

@@ -13,6 +13,75 @@ use libc::STDIN_FILENO;
 use libc::STDOUT_FILENO;
 ghost use Rattle.io.specs.Counts.{Counts};
 
+// The words that are written, each with a space before it. A word is a value and no string: strings of several branches are dear to prove.
+const OPEN_TEXT: [u8; 13] = *b" open text   ";
+
+const CLOSE_TEXT: [u8; 13] = *b" close text  ";
+
+const TEXT: [u8; 13] = *b" text        ";
+
+const CLOSE: [u8; 13] = *b" close       ";
+
+const CANCEL: [u8; 13] = *b" cancel      ";
+
+const TAXES: [u8; 13] = *b" taxes       ";
+
+const SUMS: [u8; 13] = *b" sums        ";
+
+const CLOSE_DAY: [u8; 13] = *b" close day   ";
+
+const REPORT: [u8; 13] = *b" report      ";
+
+const STATUS: [u8; 13] = *b" status      ";
+
+const RATES: [u8; 13] = *b" rates       ";
+
+const SUBTOTAL: [u8; 13] = *b" subtotal    ";
+
+const OPEN: [u8; 13] = *b" open op     ";
+
+const PASSWORD: [u8; 13] = *b" password    ";
+
+const TILL: [u8; 13] = *b" till        ";
+
+const SELL: [u8; 13] = *b" sell group  ";
+
+const MINUS: [u8; 13] = *b" minus       ";
+
+const PRICE: [u8; 13] = *b" price       ";
+
+const QUANTITY: [u8; 13] = *b" quantity    ";
+
+const NOTHING: [u8; 13] = *b" nothing     ";
+
+const PERCENT_MORE: [u8; 13] = *b" percent more";
+
+const PERCENT_LESS: [u8; 13] = *b" percent less";
+
+const AMOUNT_MORE: [u8; 13] = *b" amount more ";
+
+const AMOUNT_LESS: [u8; 13] = *b" amount less ";
+
+const PAY: [u8; 13] = *b" pay         ";
+
+const CASH: [u8; 13] = *b" cash        ";
+
+const N: [u8; 13] = *b" N           ";
+
+const C: [u8; 13] = *b" C           ";
+
+const D: [u8; 13] = *b" D           ";
+
+const B: [u8; 13] = *b" B           ";
+
+const REST: [u8; 13] = *b" rest        ";
+
+const AMOUNT: [u8; 13] = *b" amount      ";
+
+const IN: [u8; 13] = *b" in          ";
+
+const OUT: [u8; 13] = *b" out         ";
+
 fn main() {
     let mut buf = io::large_buffer();
     let n = all(&mut buf);
@@ -69,51 +138,50 @@ fn wide(b: u8) -> usize {
 }
 
 fn say(code: u8, read: Parsed) {
-    field(b"", code as u64);
+    io::print_decimal(STDOUT_FILENO, code as u64);
     outcome(read);
-    word(b"\n");
+    put(b"\n");
 }
 
 fn outcome(read: Parsed) {
     match read {
         Parsed::Read(c) => kind(c),
-        Parsed::Syntax => word(b" 1"),
-        Parsed::Unknown => word(b" 2"),
+        Parsed::Syntax => number(1),
+        Parsed::Unknown => number(2),
     }
 }
 
 fn kind(c: Command) {
     match c {
-        Command::OpenText => word(b" open text"),
-        Command::CloseText => word(b" close text"),
-        Command::PrintText => word(b" text"),
+        Command::OpenText => word(OPEN_TEXT),
+        Command::CloseText => word(CLOSE_TEXT),
+        Command::PrintText => word(TEXT),
         Command::Open { op, password, till } => open(op, password, till),
         Command::Sell(sale) => sell(sale),
         Command::Subtotal { print, show } => subtotal(print, show),
         Command::Pay(payment) => pay(payment),
-        Command::Close => word(b" close"),
-        Command::Cancel => word(b" cancel"),
-        Command::Sums { taxes } => either(taxes, b" taxes", b" sums"),
-        Command::Closing { clears } => either(clears, b" close day", b" report"),
+        Command::Close => word(CLOSE),
+        Command::Cancel => word(CANCEL),
+        Command::Sums { taxes } => either(taxes, TAXES, SUMS),
+        Command::Closing { clears } => either(clears, CLOSE_DAY, REPORT),
         Command::Drawer(service) => drawer(service),
-        Command::Status => word(b" status"),
-        Command::Rates => word(b" rates"),
+        Command::Status => word(STATUS),
+        Command::Rates => word(RATES),
     }
 }
 
 fn subtotal(print: bool, show: bool) {
-    word(b" subtotal");
-    flag(print);
-    flag(show);
+    field(SUBTOTAL, print as u64);
+    number(show as u64);
 }
 
 fn open(op: u64, password: Password, till: u64) {
     let digits = password.digits;
     let value = password.value;
-    field(b" open op ", op);
-    field(b" password ", digits as u64);
-    field(b" ", value);
-    field(b" till ", till);
+    field(OPEN, op);
+    field(PASSWORD, digits as u64);
+    number(value);
+    field(TILL, till);
 }
 
 fn sell(sale: Sale) {
@@ -122,62 +190,57 @@ fn sell(sale: Sale) {
     let price = sale.price;
     let quantity = sale.quantity;
     let by = sale.adjust;
-    field(b" sell group ", group);
-    word(b" minus");
-    flag(minus);
-    field(b" price ", price);
-    field(b" quantity ", quantity);
+    field(SELL, group);
+    field(MINUS, minus as u64);
+    field(PRICE, price);
+    field(QUANTITY, quantity);
     adjust(by);
 }
 
 fn adjust(by: Adjust) {
     match by {
-        Adjust::Nothing => word(b" nothing"),
-        Adjust::PercentMore(n) => field(b" percent more ", n),
-        Adjust::PercentLess(n) => field(b" percent less ", n),
-        Adjust::AmountMore(n) => field(b" amount more ", n),
-        Adjust::AmountLess(n) => field(b" amount less ", n),
+        Adjust::Nothing => word(NOTHING),
+        Adjust::PercentMore(n) => field(PERCENT_MORE, n),
+        Adjust::PercentLess(n) => field(PERCENT_LESS, n),
+        Adjust::AmountMore(n) => field(AMOUNT_MORE, n),
+        Adjust::AmountLess(n) => field(AMOUNT_LESS, n),
     }
 }
 
 fn pay(payment: Payment) {
     let by = payment.mode;
     let given = payment.tender;
-    word(b" pay ");
+    word(PAY);
     mode(by);
     tender(given);
 }
 
 fn mode(by: Mode) {
     match by {
-        Mode::Cash => word(b"cash"),
-        Mode::N => word(b"N"),
-        Mode::C => word(b"C"),
-        Mode::D => word(b"D"),
-        Mode::B => word(b"B"),
+        Mode::Cash => word(CASH),
+        Mode::N => word(N),
+        Mode::C => word(C),
+        Mode::D => word(D),
+        Mode::B => word(B),
     }
 }
 
 fn tender(given: Tender) {
     match given {
-        Tender::Rest => word(b" rest"),
-        Tender::Amount(n) => field(b" amount ", n),
+        Tender::Rest => word(REST),
+        Tender::Amount(n) => field(AMOUNT, n),
     }
 }
 
 fn drawer(service: Service) {
     match service {
-        Service::Report => word(b" report"),
-        Service::In(n) => field(b" in ", n),
-        Service::Out(n) => field(b" out ", n),
+        Service::Report => word(REPORT),
+        Service::In(n) => field(IN, n),
+        Service::Out(n) => field(OUT, n),
     }
 }
 
-fn flag(b: bool) {
-    either(b, b" 1", b" 0");
-}
-
-fn either(b: bool, yes: &[u8], no: &[u8]) {
+fn either(b: bool, yes: [u8; 13], no: [u8; 13]) {
     if b {
         word(yes);
         return;
@@ -185,12 +248,31 @@ fn either(b: bool, yes: &[u8], no: &[u8]) {
     word(no);
 }
 
-fn field(name: &[u8], n: u64) {
+fn field(name: [u8; 13], n: u64) {
     word(name);
+    number(n);
+}
+
+// A space and the number.
+fn number(n: u64) {
+    put(b" ");
     io::print_decimal(STDOUT_FILENO, n);
 }
 
-fn word(s: &[u8]) {
+// The word without the spaces behind it.
+fn word(s: [u8; 13]) {
+    let mut n = 13;
+    while 0 < n {
+        let last = n - 1;
+        if s[last] != b' ' {
+            break;
+        }
+        n = last;
+    }
+    put(&s[0..n]);
+}
+
+fn put(s: &[u8]) {
     if !io::write_all(STDOUT_FILENO, s) {
         os::fail(b"error: standard output can't be written");
     }

@@ -3,6 +3,7 @@ use libc::STDOUT_FILENO;
 use wire::ANSWER_ROOM;
 use wire::Built;
 use wire::Way;
+ghost use Prim.Native.Nat.{_≤_};
 
 fn main() {
     papers();
@@ -63,7 +64,6 @@ fn answer(name: &[u8], seq: u8, code: u8, content: &[u8], status: [u8; 6]) {
     report(name, Way::ToTill, built, buf);
 }
 
-// The frame, what it is read as, and what becomes of it when one byte is another.
 fn report(name: &[u8], way: Way, built: Built, buf: [u8; ANSWER_ROOM]) {
     word(name);
     let Built::Frame(n) = built else {
@@ -76,6 +76,14 @@ fn report(name: &[u8], way: Way, built: Built, buf: [u8; ANSWER_ROOM]) {
     if ANSWER_ROOM < n {
         return;
     }
+    framed(way, buf, n);
+}
+
+// The frame, what it is read as, and what becomes of it when one byte is another.
+fn framed(way: Way, buf: [u8; ANSWER_ROOM], n: usize)
+    requires { ⌜ 10 ≤ n ⌝ }
+    requires { ⌜ n ≤ 217 ⌝ }
+{
     show(&buf[0..n]);
     tell(b"  read back: ", reader::listen(way, &buf[0..n]));
     let mut other = buf;

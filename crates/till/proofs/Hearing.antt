@@ -5,38 +5,11 @@ use mathlib.Core.List.{List, [], _∷_}
 use Prim.Native.Nat.{ℕ, _-_}
 use native.Mathlib.Omega.{arith}
 use lib.Dec.{eqb}
-use lib.ListN.{length}
 use Rattle.wire.specs.Frame.{Message}
 use Rattle.wire.specs.declared.Way.{Way}
 use Rattle.reader.proofs.History.{no-start}
-use Rattle.reader.specs.Reading.{Place, outside, inside, Read, Event, nothing, brokenFrame, heard, suits, atLast, read, readOther, startsAnew, message}
+use Rattle.reader.specs.Reading.{Place, outside, inside, Read, nothing, brokenFrame, heard, suits, atLast, read, readOther, startsAnew, message}
 use Rattle.reader.proofs.Steps.{reads-broken, reads-more, reads-whole}
-use Rattle.reader.specs.Fields.{heardOf}
-use Rattle.reader.specs.declared.Heard.the-variants.{Nothing, Broken, Whole}
-
--- which event, by what the reader tells of it
-pub told-nothing : (e : Event) → heardOf e ≡ Nothing → e ≡ nothing
-told-nothing nothing h = refl
-told-nothing brokenFrame h = let z : _≡_ {A = ℕ} 0 1 = cc in absurd (omega arith)
-told-nothing (heard m) h = let z : _≡_ {A = ℕ} 0 1 = cc in absurd (omega arith)
-
-pub told-broken : (e : Event) → heardOf e ≡ Broken → e ≡ brokenFrame
-told-broken nothing h = let z : _≡_ {A = ℕ} 0 1 = cc in absurd (omega arith)
-told-broken brokenFrame h = refl
-told-broken (heard m) h = let z : _≡_ {A = ℕ} 0 1 = cc in absurd (omega arith)
-
--- a whole message with this SEQ, this CMD and so many data bytes
-pub record Told (e : Event) (seq code n : ℕ) : Type 0 where
-  pub message : Message
-  pub is : e ≡ heard message
-  pub seq-is : message .seq ≡ seq
-  pub code-is : message .code ≡ code
-  pub size : length (message .content) ≡ n
-
-pub told-whole : (e : Event) (seq code n : ℕ) → heardOf e ≡ Whole seq code n → Told e seq code n
-told-whole nothing seq code n h = let z : _≡_ {A = ℕ} 0 1 = cc in absurd (omega arith)
-told-whole brokenFrame seq code n h = let z : _≡_ {A = ℕ} 0 1 = cc in absurd (omega arith)
-told-whole (heard m) seq code n h = record { message = m; is = refl; seq-is = cc; code-is = cc; size = cc }
 
 -- a byte that breaks a frame, and is not 01h, leaves it
 pub broken-outside : (k : Way) (p : Place) (b : ℕ) → eqb b 0x01 ≡ false → read k p b .event ≡ brokenFrame → read k p b .place ≡ outside

@@ -1,3 +1,4 @@
 pub mod Hearing
 pub mod Turning
+mod Judging
 pub mod Outer

@@ -1,7 +1,8 @@
 -- Laws of the public functions: refusals, Idle, and what their private ones say.
 use mathlib.Core.Path.{_≡_, refl, sym, ap, _∙_}
 use mathlib.Core.Bool.{Bool, true, false, cond}
-use mathlib.Core.List.{List}
+use mathlib.Core.List.{List, [], _∷_}
+use mathlib.Core.Logic.{⊎-elim}
 use Prim.Native.Nat.{ℕ, _≤_, _<_}
 use native.Mathlib.Omega.{arith}
 use lib.Dec.{ltb}
@@ -9,6 +10,9 @@ use lib.ListN.{length, take}
 use lib.Seq.{sets, sets-eq, take-at}
 use borrow.Author.Tests.{lt-ltb, le-ltb}
 use Rattle.text.proofs.Laws.{sets-same}
+use types.Run.{OneOf}
+use denote.Enum.Declared.{tagOf}
+use Rattle.wire.proofs.Built.{the-type}
 use Rattle.wire.specs.Frame.{Message, commandOf, frame, sendable}
 use Rattle.wire.specs.Replies.{Reply, replyOf, building}
 use Rattle.wire.specs.declared.Built.{Built}
@@ -99,11 +103,15 @@ not-refused next seq code bytes tries failed = go (ltb tries 5)
 not-refused next seq code bytes tries (goesOn ear) = refl
 not-refused next seq code bytes tries (answers m) = refl
 
-pub said-on : (t : Till) (next seq code : ℕ) (bytes : List ℕ) (tries : ℕ) (m : Meaning)
+said-on : (t : Till) (next seq code : ℕ) (bytes : List ℕ) (tries : ℕ) (m : Meaning)
     → spoken (onMeaning next seq code bytes tries m) ≡ saidOf t (onMeaning next seq code bytes tries m)
 said-on t next seq code bytes tries m =
     let x : Turn = onMeaning next seq code bytes tries m in
     ap (λ c. record { till = cond c t (tillOf (x .state)); word = x .word }) (sym (not-refused next seq code bytes tries m))
+
+pub said-held : (t : Till) (r : Said) (x : Turn) (next seq code : ℕ) (bytes : List ℕ) (tries : ℕ) (m : Meaning) → x ≡ onMeaning next seq code bytes tries m
+    → r ≡ spoken (onMeaning next seq code bytes tries m) → r ≡ saidOf t x
+said-held t r x next seq code bytes tries m e p = p ∙ said-on t next seq code bytes tries m ∙ ap (saidOf t) (sym e)
 
 -- and one that is sent, or is not
 abbrev bySendable : ℕ → Message → Bool → Turn
@@ -153,21 +161,18 @@ module _ (next code : ℕ) (content array : List ℕ) (size : length array ≡ 2
           let all = ap (λ z. replyOf z after) (sym is) ∙ e ∙ built-as false es in
           absurd (omega (arith, ap (λ (z : Reply). z .number) all))
 
-  -- the array is long enough
-  pub built-short : (r : Built) (after : List ℕ) → r ≡ Short → replyOf r after ≡ building ToDevice array m → ⊥
-  built-short r after is e = go (sendable ToDevice m) refl
-    where
-      go : (s : Bool) → sendable ToDevice m ≡ s → ⊥
-      go true es = omega (arith, ap (λ (z : Reply). z .number) (ap (λ z. replyOf z after) (sym is) ∙ e ∙ built-as true es))
-      go false es = omega (arith, ap (λ (z : Reply). z .number) (ap (λ z. replyOf z after) (sym is) ∙ e ∙ built-as false es))
-
-  pub built-not : (r : Built) (after : List ℕ) → r ≡ Unsendable → replyOf r after ≡ building ToDevice array m
+  -- the array is long enough, so that no frame says that it can't be sent
+  pub built-none : (r : Built) (after : List ℕ) → OneOf (1 ∷ 2 ∷ []) (tagOf the-type r) → replyOf r after ≡ building ToDevice array m
       → (sendable ToDevice m ≡ false) × (after ≡ array)
-  built-not r after is e = go (sendable ToDevice m) refl
+  built-none r after no-frame e = go r (sendable ToDevice m) refl no-frame e
     where
-      go : (s : Bool) → sendable ToDevice m ≡ s → (sendable ToDevice m ≡ false) × (after ≡ array)
-      go true es = absurd (omega (arith, ap (λ (z : Reply). z .number) (ap (λ z. replyOf z after) (sym is) ∙ e ∙ built-as true es)))
-      go false es = (es, ap (λ (z : Reply). z .buffer) (ap (λ z. replyOf z after) (sym is) ∙ e ∙ built-as false es))
+      go : (z : Built) (s : Bool) → sendable ToDevice m ≡ s → OneOf (1 ∷ 2 ∷ []) (tagOf the-type z) → replyOf z after ≡ building ToDevice array m
+          → (sendable ToDevice m ≡ false) × (after ≡ array)
+      go (Frame n) s es o h = absurd (⊎-elim (λ k. omega arith) (λ k. omega arith) o)
+      go Short true es o h = absurd (omega (arith, ap (λ (z : Reply). z .number) (h ∙ built-as true es)))
+      go Short false es o h = absurd (omega (arith, ap (λ (z : Reply). z .number) (h ∙ built-as false es)))
+      go Unsendable true es o h = absurd (omega (arith, ap (λ (z : Reply). z .number) (h ∙ built-as true es)))
+      go Unsendable false es o h = (es, ap (λ (z : Reply). z .buffer) (h ∙ built-as false es))
 
   -- not sent
   pub says-not : sendable ToDevice m ≡ false → (after buf : List ℕ) → after ≡ array

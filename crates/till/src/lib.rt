@@ -2,6 +2,7 @@
 use reader::FRAME_ROOM;
 use reader::Heard;
 use reader::Reader;
+use reader::Taken;
 use wire::Built;
 use wire::COMMAND_ROOM;
 use wire::Way;
@@ -15,7 +16,7 @@ ghost use lib.Seq.{sets};
 ghost use Rattle.till.specs.Words.{numberOf, countOf};
 ghost use Rattle.till.specs.Turns.{command, byte, timeout, freshEar, freshState, seqAfter};
 ghost use Rattle.till.specs.Fields.{earOf, tillOf, framed, heldIn, saidOf, turnOf};
-ghost use Rattle.till.specs.Private.{spoken, failedBy, heardBy, sentBy};
+ghost use Rattle.till.specs.Private.{spoken, failedBy, heardBy, judged, sentBy};
 ghost use Rattle.till.specs.declared.Slot.the-variants.{Free, Held};
 ghost use Rattle.till.specs.declared.Word.the-variants.{Waiting, Answered, NotSent};
 
@@ -69,6 +70,13 @@ pub enum Word {
 pub struct Said {
     pub till: Till,
     pub word: Word,
+}
+
+// What a byte is to the command that waits (PROTOCOL 7.5); an answer with the number of its data bytes.
+enum Verdict {
+    Fails,
+    GoesOn,
+    Answers(usize),
 }
 
 // A till end with no command waiting.
@@ -146,22 +154,18 @@ fn send(next: u8, frame: &mut [u8; FRAME_ROOM], code: u8, content: &[u8], buf: &
     ensures { λ r. ⌜ now (buf .exit) ≡ sets (now (buf .entry)) 0 (sentBy next code (now (content .entry)) .puts) ⌝ }
 {
     let built = wire::build::build_command(frame, next, code, content);
-    match built {
-        Built::Short => free(next, Word::NotSent),
-        Built::Unsendable => free(next, Word::NotSent),
-        Built::Frame(n) => {
-            let count = n as u8;
-            hand_out(&*frame, count, buf);
-            let first = Attempt {
-                seq: next,
-                code,
-                tries: 1,
-                count,
-                ear: listen(),
-            };
-            held(seq_after(next), first, Word::Waiting(n))
-        }
-    }
+    let Built::Frame(n) = built else {
+        return free(next, Word::NotSent);
+    };
+    put_part(&*frame, 0, n, buf, 0);
+    let first = Attempt {
+        seq: next,
+        code,
+        tries: 1,
+        count: n as u8,
+        ear: listen(),
+    };
+    held(seq_after(next), first, Word::Waiting(n))
 }
 
 // What is said where a command waits.
@@ -209,13 +213,13 @@ fn seq_after(seq: u8) -> u8
     seq + 1
 }
 
-// The frame's bytes at the front of the lent buffer.
-fn hand_out(frame: &[u8], count: u8, buf: &mut [u8])
-    requires { ⌜ length (now frame) ≡ 256 ⌝ }
-    ensures { λ r. ⌜ now (buf .exit) ≡ sets (now (buf .entry)) 0 (take count (now (frame .entry))) ⌝ }
+// The n bytes from `start` on, put into the lent buffer.
+fn put_part(from: &[u8], start: usize, n: usize, buf: &mut [u8], at: usize)
+    requires { ⌜ start + n ≤ length (now from) ⌝ }
+    ensures { λ r. ⌜ now (buf .exit) ≡ sets (now (buf .entry)) at (take n (drop start (now (from .entry)))) ⌝ }
 {
-    let n = count as usize;
-    text::put_bytes(buf, 0, &frame[0..n]);
+    let end = start + n;
+    text::put_bytes(buf, at, &from[start..end]);
 }
 
 // A byte from the line.
@@ -246,7 +250,7 @@ pub fn byte(
     hear(till.next, a, frame, answer, b, buf)
 }
 
-// A byte to a command that waits.
+// A byte to a command that waits. It is read first: NAK outside an answer leaves reading where it stands.
 fn hear(
     next: u8,
     a: Attempt,
@@ -260,31 +264,41 @@ fn hear(
     ensures { λ r. ⌜ now (answer .exit) ≡ heldIn (now (answer .entry)) (heardBy next a (now (frame .entry)) (now (answer .entry)) b .state .pending) ⌝ }
     ensures { λ r. ⌜ now (buf .exit) ≡ sets (now (buf .entry)) 0 (heardBy next a (now (frame .entry)) (now (answer .entry)) b .puts) ⌝ }
 {
-    let ear = a.ear;
-    let reader = ear.reader;
-    if nak_outside(reader.inside, b) {
-        return failed_try(next, a, frame, buf);
-    }
+    let reader = a.ear.reader;
     let taken = reader::take_byte(Way::ToTill, reader, answer, b);
-    let reader = taken.reader;
-    let after = Ear { reader };
     let heard = taken.heard;
+    let verdict = judge(nak_outside(reader.inside, b), a.seq, a.code, b, heard);
+    match verdict {
+        Verdict::Fails => return failed_try(next, a, frame, buf),
+        Verdict::GoesOn => return goes_on(next, a, taken),
+        Verdict::Answers(n) => return answered(next, &*answer, n, buf),
+    }
+}
+
+// What a byte is to the command that waits, by what the reader tells of it.
+fn judge(nak: bool, seq: u8, code: u8, b: u8, heard: Heard) -> Verdict
+    ensures { λ r. ⌜ r ≡ judged nak seq code b heard ⌝ }
+{
+    if nak {
+        return Verdict::Fails;
+    }
     match heard {
-        Heard::Nothing => goes_on(next, a, after),
+        Heard::Nothing => Verdict::GoesOn,
         Heard::Broken => {
             if b == 0x01 {
-                return goes_on(next, a, after);
+                return Verdict::GoesOn;
             }
-            failed_try(next, a, frame, buf)
+            Verdict::Fails
         }
-        Heard::Whole { seq, code, count } => {
-            if seq != a.seq {
-                return failed_try(next, a, frame, buf);
+        Heard::Whole {
+            seq: s,
+            code: c,
+            count,
+        } => {
+            if (s == seq) & (c == code) {
+                return Verdict::Answers(count);
             }
-            if code != a.code {
-                return failed_try(next, a, frame, buf);
-            }
-            answered(next, &*answer, count, buf)
+            Verdict::Fails
         }
     }
 }
@@ -300,16 +314,17 @@ fn nak_outside(within: bool, b: u8) -> bool
 }
 
 // One byte more, of an answer or beside one. That the count is a byte is for its caller.
-fn goes_on(next: u8, a: Attempt, ear: Ear) -> Said
+fn goes_on(next: u8, a: Attempt, taken: Taken) -> Said
     ensures { λ r. ⌜ a .count < 256 ⌝ }
-    ensures { λ r. ⌜ r ≡ record { till = record { next = next; slot = Held (record { seq = a .seq; code = a .code; tries = a .tries; count = a .count; ear = ear }) }; word = Waiting 0 } ⌝ }
+    ensures { λ r. ⌜ r ≡ record { till = record { next = next; slot = Held (record { seq = a .seq; code = a .code; tries = a .tries; count = a .count; ear = record { reader = taken .reader } }) }; word = Waiting 0 } ⌝ }
 {
+    let reader = taken.reader;
     let more = Attempt {
         seq: a.seq,
         code: a.code,
         tries: a.tries,
         count: a.count,
-        ear,
+        ear: Ear { reader },
     };
     held(next, more, Word::Waiting(0))
 }
@@ -320,11 +335,8 @@ fn answered(next: u8, answer: &[u8], n: usize, buf: &mut [u8]) -> Said
     ensures { λ r. ⌜ r ≡ record { till = record { next = next; slot = Free }; word = Answered (n + 6) } ⌝ }
     ensures { λ r. ⌜ now (buf .exit) ≡ sets (now (buf .entry)) 0 (take n (drop 3 (now (answer .entry))) ++ take 6 (drop (4 + n) (now (answer .entry)))) ⌝ }
 {
-    let end = n + 3;
-    let from = n + 4;
-    let behind = n + 10;
-    text::put_bytes(buf, 0, &answer[3..end]);
-    text::put_bytes(buf, n, &answer[from..behind]);
+    put_part(answer, 3, n, buf, 0);
+    put_part(answer, n + 4, 6, buf, n);
     free(next, Word::Answered(n + 6))
 }
 
@@ -337,7 +349,7 @@ fn failed_try(next: u8, a: Attempt, frame: &[u8], buf: &mut [u8]) -> Said
     let tries = a.tries;
     let count = a.count;
     if tries < MOST_TRIES {
-        hand_out(frame, count, buf);
+        put_part(frame, 0, count as usize, buf, 0);
         let again = Attempt {
             seq: a.seq,
             code: a.code,

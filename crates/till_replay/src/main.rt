@@ -7,19 +7,18 @@ use reader::FRAME_ROOM;
 use till::Said;
 use till::Till;
 use till::Word;
-ghost use Prim.Native.Nat.{_<_};
+ghost use mathlib.Core.Path.{_≡_};
+ghost use Prim.Native.Nat.{_<_, _≤_};
+ghost use lib.ListN.{length};
 
-// What was said of an event: the till end afterwards, and whether it was written.
-struct Told {
-    till: Till,
-    written: bool,
-}
+// The longest event: a command with 255 data bytes.
+const EVENT_ROOM: usize = 259;
 
 // Events are read one by one to the end of the input.
 fn main() {
     let mut frame = [0u8; FRAME_ROOM];
     let mut answer = [0u8; FRAME_ROOM];
-    let mut event = [0u8; 259];
+    let mut event = [0u8; EVENT_ROOM];
     let mut buf = [0u8; FRAME_ROOM];
     let mut till = till::fresh();
     let mut events: u64 = 0;
@@ -29,12 +28,13 @@ fn main() {
             ended(n, events);
             return;
         }
-        let told = tell(till, &mut frame, &mut answer, &event, n, &mut buf);
-        if !told.written {
-            os::fail(b"error: standard output can't be written");
+        let said = happen(till, &mut frame, &mut answer, &event, n, &mut buf);
+        let word = said.word;
+        if !say(word, &buf) {
+            unwritten();
             return;
         }
-        let after = told.till;
+        let after = said.till;
         till = after;
         events += 1;
     }
@@ -53,46 +53,58 @@ fn ended(n: usize, events: u64) {
     );
 }
 
+fn unwritten() {
+    os::fail(b"error: standard output can't be written");
+}
+
 // The next event at the front of the buffer, and its length: 0 where the input ends or can't be read, 1 where what comes is none.
-fn next_event(event: &mut [u8]) -> usize {
-    if event.len() < 259 {
+fn next_event(event: &mut [u8]) -> usize
+    requires { ⌜ length (now event) ≡ 259 ⌝ }
+    ensures { λ r. ⌜ r < 260 ⌝ }
+{
+    if !begun(event) {
         return 0;
     }
+    if !more(event, 1, 2) {
+        return 1;
+    }
+    let kind = event[1];
+    if kind == b'T' {
+        return 2;
+    }
+    if !more(event, 2, 3) {
+        return 1;
+    }
+    if kind == b'B' {
+        return 3;
+    }
+    if kind != b'C' {
+        return 1;
+    }
+    let end = wide(event[2]) + 4;
+    if !more(event, 3, end) {
+        return 1;
+    }
+    end
+}
+
+// The first byte of an event, where one comes.
+fn begun(event: &mut [u8]) -> bool
+    requires { ⌜ 0 < length (now event) ⌝ }
+{
     let got = libc::read(STDIN_FILENO, &mut event[0..1]);
     if got < 0 {
         os::fail(b"error: standard input can't be read");
     }
-    if got < 1 {
-        return 0;
-    }
-    if io::read_full(STDIN_FILENO, &mut event[1..2]) < 1 {
-        return 1;
-    }
-    if event[1] == b'T' {
-        return 2;
-    }
-    if io::read_full(STDIN_FILENO, &mut event[2..3]) < 1 {
-        return 1;
-    }
-    if event[1] == b'B' {
-        return 3;
-    }
-    if event[1] != b'C' {
-        return 1;
-    }
-    command_data(event)
+    0 < got
 }
 
-// CMD and the data, behind the number of data bytes.
-fn command_data(event: &mut [u8]) -> usize {
-    if event.len() < 259 {
-        return 0;
-    }
-    let end = wide(event[2]) + 4;
-    if io::read_full(STDIN_FILENO, &mut event[3..end]) < end - 3 {
-        return 1;
-    }
-    end
+// The bytes of an event behind the first, where all of them come.
+fn more(event: &mut [u8], from: usize, end: usize) -> bool
+    requires { ⌜ from ≤ end ⌝ }
+    requires { ⌜ end ≤ length (now event) ⌝ }
+{
+    io::read_full(STDIN_FILENO, &mut event[from..end]) == end - from
 }
 
 fn wide(b: u8) -> usize
@@ -102,61 +114,38 @@ fn wide(b: u8) -> usize
 }
 
 // One event, its first n bytes. What is lent is the front of the buffer.
-fn tell(
+fn happen(
     till: Till,
     frame: &mut [u8; FRAME_ROOM],
     answer: &mut [u8; FRAME_ROOM],
     event: &[u8],
     n: usize,
     buf: &mut [u8],
-) -> Told {
-    if n < 2 {
-        return so_far(till, false);
+) -> Said
+    requires { ⌜ length (now event) ≡ 259 ⌝ }
+    requires { ⌜ n < 260 ⌝ }
+    requires { ⌜ length (now buf) ≡ 256 ⌝ }
+{
+    let end = wide(event[0]);
+    let lent = &mut buf[0..end];
+    if n < 3 {
+        return till::timeout(till, &*frame, lent);
     }
-    if event.len() < n {
-        return so_far(till, false);
+    if n < 4 {
+        return till::byte(till, &*frame, answer, event[2], lent);
     }
-    let lent = wide(event[0]);
-    if buf.len() < lent {
-        return so_far(till, false);
-    }
-    let said = happen(till, frame, answer, &event[1..n], &mut buf[0..lent]);
-    let after = said.till;
-    let word = said.word;
-    so_far(after, say(word, &*buf))
-}
-
-fn so_far(till: Till, written: bool) -> Told {
-    Told { till, written }
-}
-
-fn happen(
-    till: Till,
-    frame: &mut [u8; FRAME_ROOM],
-    answer: &mut [u8; FRAME_ROOM],
-    s: &[u8],
-    buf: &mut [u8],
-) -> Said {
-    if s.len() < 2 {
-        return till::timeout(till, &*frame, buf);
-    }
-    if s[0] == b'B' {
-        return till::byte(till, &*frame, answer, s[1], buf);
-    }
-    if s.len() < 3 {
-        return till::timeout(till, &*frame, buf);
-    }
-    till::command(till, frame, s[2], &s[3..], buf)
+    till::command(till, frame, event[3], &event[4..n], lent)
 }
 
 // The reply number, the word, the count, and the bytes put in the buffer; of Unfinished the tries alone.
 fn say(word: Word, buf: &[u8]) -> bool {
     let n = till::count(word);
-    let head = [till::number(word), place(word), (n % 256) as u8];
+    let number = till::number(word);
+    let head = [number, place(word), (n % 256) as u8];
     if !io::write_all(STDOUT_FILENO, &head) {
         return false;
     }
-    if till::number(word) != 0 {
+    if number != 0 {
         return true;
     }
     if buf.len() < n {

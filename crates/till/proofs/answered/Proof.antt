@@ -6,24 +6,17 @@ use Rattle.till.proofs.answered.Tie as tie
 
 returns : tie.Need-returns
 returns c =
-    let first = c .before .before .before .before .before .before .before .before in
-    let s = first .before .before .before .before .before in
+    let second = c .before .before .before in
+    let first = second .before .before .before .before in
+    let s = first .before .before .before .before in
     let a = s .args in
-    (c .free .ensures, put-both (now (a .buf)) _ _ (now (a .answer)) (a .n) (s .pre) (first .put-bytes .ensures) (c .before .before .before .put-bytes2 .ensures))
+    (c .free .ensures, put-both (now (a .buf)) _ _ (now (a .answer)) (a .n) (s .pre) (first .put-part .ensures) (second .put-part2 .ensures))
 
 pub answered-spec : {M : Type 1} → statement M
 answered-spec =
     tie.close
     (tie.spec
-    (λ c. search needs)
-    (λ c. search needs)
-    (λ c. search needs)
-    (λ c. search needs)
-    (λ c. search needs)
-    (λ c. search needs)
     (λ c κs. search needs)
-    (λ c. search needs)
-    (λ c. search needs)
     (λ c. search needs)
     (λ c κs. search needs)
     (λ c. search needs)

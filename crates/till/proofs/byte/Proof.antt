@@ -1,10 +1,10 @@
-use mathlib.Core.Path.{refl, _∙_}
+use mathlib.Core.Path.{refl}
 use denote.Ref.{now}
 use lib.ListN.{take}
 use Rattle.till.specs.Turns.{byte, byteMeans}
 use Rattle.till.specs.Fields.{earIn}
 use Rattle.till.specs.declared.Word.the-variants.{Idle, TooShort}
-use Rattle.till.proofs.Outer.{too-short, byte-idle, byte-held, all-stays, idle-stays, read-same, said-on, says, puts, reads-in}
+use Rattle.till.proofs.Outer.{too-short, byte-idle, byte-held, all-stays, idle-stays, read-same, said-held, says, puts, reads-in}
 use borrow.Author.Needs.{needs}
 use Rattle.till.proofs.byte.Statement.{statement}
 use Rattle.till.proofs.byte.Tie as tie
@@ -39,8 +39,7 @@ returns-3 c =
     let h = c .before .before .hear in
     let x = known .slot .given .0 .0 in
     let e = byte-held (a .till) (now (a .frame)) (now (a .answer)) (now (a .buf)) (known .before .before .if1 .left) (a .b) x (known .slot .given .1) in (
-      says (a .till) (now (a .buf)) (now (a .buf)) (h .result) _ _ e
-          (h .ensures .0 ∙ said-on (a .till) (a .till .next) (x .seq) (x .code) (take (x .count) (now (a .frame))) (x .tries) (byteMeans (x .seq) (x .code) (earIn (x .ear) (now (a .answer))) (a .b))),
+      said-held (a .till) (h .result) _ (a .till .next) (x .seq) (x .code) (take (x .count) (now (a .frame))) (x .tries) (byteMeans (x .seq) (x .code) (earIn (x .ear) (now (a .answer))) (a .b)) e (h .ensures .0),
       (
         reads-in (a .till) (now (a .buf)) (now (a .buf)) (h .result) _ _ e (now (a .answer)) _ (h .ensures .1 .0),
         puts (a .till) (now (a .buf)) _ (h .result) _ _ e (h .ensures .1 .1),

@@ -10,7 +10,7 @@ returns : tie.Need-returns
 returns c =
     let s = c .before .before .before .before .before .before .before .before .before in
     let a = s .args in
-    let all = says-again (a .next) (a .a) (now (a .frame)) (c .before .before .before .before .before .before .if1 .taken) (s .pre) (omega arith) _ (c .before .listen .ensures) (now (a .buf)) _ (c .before .before .before .before .hand-out .ensures) in
+    let all = says-again (a .next) (a .a) (now (a .frame)) (c .before .before .before .before .before .before .if1 .taken) (s .pre) (omega arith) _ (c .before .listen .ensures) (now (a .buf)) _ (c .before .before .before .before .put-part .ensures) in
     (c .held .ensures ∙ all .0, all .1)
 
 returns-2 : tie.Need-returns-2
@@ -23,6 +23,7 @@ pub failed-try-spec : {M : Type 1} → statement M
 failed-try-spec =
     tie.close
     (tie.spec
+    (λ c. search needs)
     (λ c κs. search needs)
     (λ c. search needs)
     (λ c κs. search needs)

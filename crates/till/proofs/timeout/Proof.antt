@@ -1,9 +1,9 @@
-use mathlib.Core.Path.{refl, _∙_}
+use mathlib.Core.Path.{refl}
 use denote.Ref.{now}
 use lib.ListN.{take}
 use Rattle.till.specs.Turns.{timeout, failed}
 use Rattle.till.specs.declared.Word.the-variants.{Idle, TooShort}
-use Rattle.till.proofs.Outer.{too-short, timeout-idle, timeout-held, all-stays, idle-stays, said-on, says, puts}
+use Rattle.till.proofs.Outer.{too-short, timeout-idle, timeout-held, all-stays, idle-stays, said-held, says, puts}
 use borrow.Author.Needs.{needs}
 use Rattle.till.proofs.timeout.Statement.{statement}
 use Rattle.till.proofs.timeout.Tie as tie
@@ -29,8 +29,8 @@ returns-3 c =
     let a = known .before .before .before .before .args in
     let h = c .before .before .failed-try in
     let x = known .slot .given .0 .0 in (
-      λ answer. says (a .till) (now (a .buf)) (now (a .buf)) (h .result) _ _ (timeout-held (a .till) (now (a .frame)) answer (now (a .buf)) (known .before .before .if1 .left) x (known .slot .given .1))
-          (h .ensures .0 ∙ said-on (a .till) (a .till .next) (x .seq) (x .code) (take (x .count) (now (a .frame))) (x .tries) failed),
+      λ answer. said-held (a .till) (h .result) _ (a .till .next) (x .seq) (x .code) (take (x .count) (now (a .frame))) (x .tries) failed
+          (timeout-held (a .till) (now (a .frame)) answer (now (a .buf)) (known .before .before .if1 .left) x (known .slot .given .1)) (h .ensures .0),
       λ answer. puts (a .till) (now (a .buf)) _ (h .result) _ _ (timeout-held (a .till) (now (a .frame)) answer (now (a .buf)) (known .before .before .if1 .left) x (known .slot .given .1)) (h .ensures .1),
     )
 
