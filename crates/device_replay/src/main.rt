@@ -22,6 +22,13 @@ struct Told {
     written: bool,
 }
 
+// What an event lends: bytes of the buffer, lines of the sheet; and its byte.
+struct Lent {
+    room: usize,
+    lines: usize,
+    byte: u8,
+}
+
 // Events are read one by one to the end of the input.
 fn main() {
     let mut frame = [0u8; FRAME_ROOM];
@@ -36,7 +43,8 @@ fn main() {
             ended(n, events);
             return;
         }
-        let told = tell(kept, &mut frame, &mut last, &event, n, &mut buf);
+        let lent = lent_in(&event, n);
+        let told = tell(kept, &mut frame, &mut last, lent, &mut buf);
         if !told.written {
             unwritten();
             return;
@@ -117,45 +125,48 @@ fn length_of(high: u8, low: u8) -> usize
     (high as usize) * 256 + (low as usize)
 }
 
-// One event, its first n bytes.
+// What an event of n bytes lends, and its byte.
+fn lent_in(event: &[u8], n: usize) -> Lent
+    requires { ⌜ length (now event) ≡ 5 ⌝ }
+    ensures { λ r. ⌜ r .room < 65536 ⌝ }
+{
+    if n < EVENT_ROOM {
+        return Lent {
+            room: ANSWER_ROOM,
+            lines: MOST_LINES,
+            byte: event[1],
+        };
+    }
+    let size = length_of(event[2], event[3]);
+    if event[1] == 0 {
+        return Lent {
+            room: size,
+            lines: MOST_LINES,
+            byte: event[4],
+        };
+    }
+    Lent {
+        room: ANSWER_ROOM,
+        lines: size,
+        byte: event[4],
+    }
+}
+
+// A byte with this much lent.
 fn tell(
     kept: Kept,
     frame: &mut [u8; FRAME_ROOM],
     last: &mut [u8; ANSWER_ROOM],
-    event: &[u8],
-    n: usize,
+    lent: Lent,
     buf: &mut [u8],
 ) -> Told
-    requires { ⌜ length (now event) ≡ 5 ⌝ }
+    requires { ⌜ lent .room < 65536 ⌝ }
     requires { ⌜ length (now buf) ≡ 65536 ⌝ }
 {
-    if n < EVENT_ROOM {
-        return lend(kept, ANSWER_ROOM, MOST_LINES, frame, last, event[1], buf);
+    if lent.lines < MOST_LINES {
+        return lend_short(kept, lent.room, frame, last, lent.byte, buf);
     }
-    let size = length_of(event[2], event[3]);
-    if event[1] == 0 {
-        return lend(kept, size, MOST_LINES, frame, last, event[4], buf);
-    }
-    lend(kept, ANSWER_ROOM, size, frame, last, event[4], buf)
-}
-
-// A byte, with this much lent: bytes of the buffer, lines of the sheet.
-fn lend(
-    kept: Kept,
-    room: usize,
-    lines: usize,
-    frame: &mut [u8; FRAME_ROOM],
-    last: &mut [u8; ANSWER_ROOM],
-    byte: u8,
-    buf: &mut [u8],
-) -> Told
-    requires { ⌜ room < 65536 ⌝ }
-    requires { ⌜ length (now buf) ≡ 65536 ⌝ }
-{
-    if lines < MOST_LINES {
-        return lend_short(kept, room, frame, last, byte, buf);
-    }
-    lend_whole(kept, room, frame, last, byte, buf)
+    lend_whole(kept, lent.room, frame, last, lent.byte, buf)
 }
 
 // The same with a sheet that is too short.
