@@ -52,6 +52,7 @@ use Rattle.machine.proofs.Device as D
 use Rattle.machine.proofs.Device.Laws as D′
 use Rattle.recorder.specs.Running.{heardThrough, startOf, handedBack, partHeard}
 use Rattle.recorder.specs.declared.Run.{Run}
+use Rattle.device.proofs.Locals.{partsIn}
 use Rattle.device.specs.declared.Kept.{Kept}
 use Rattle.device.proofs.Kept as K
 use Rattle.device.proofs.Kept.Laws as K′
@@ -215,9 +216,9 @@ module _ {M : Type 1} (𝓤 : URA M) (H : Heap 𝓤) (A : Atoms 𝓤) (W : Given
         move ! (1 ∷ []) $ fsplit ! $ move ! (1 ∷ []) $ fsplit ! $ move ! (1 ∷ []) $ fsplit ! $ move ! (1 ∷ []) $ fsplit ! $ keep ! (0 ∷ 8 ∷ 2 ∷ 10 ∷ 3 ∷ 11 ∷ 4 ∷ 12 ∷ 5 ∷ 13 ∷ 6 ∷ 14 ∷ []) $ enter ! C₀ Λ code.function (kv ∷ (vptr (f .ptr .0) (f .ptr .1)) ∷ (vptr (l .ptr .0) (l .ptr .1)) ∷ (sliceVal (y .ptr) (length (y .now))) ∷ (sliceVal (z .ptr) (length (z .now))) ∷ (sliceVal (u .ptr) (length (u .now))) ∷ (sliceVal (r .ptr) (length (r .now))) ∷ []) _ $
         alloc1 ! (λ l₀. alloc1 ! (λ l₁. alloc1 ! (λ l₂. alloc1 ! (λ l₃. alloc1 ! (λ l₄. alloc1 ! (λ l₅. alloc1 ! (λ l₆. alloc1 ! (λ l₇. alloc1 ! (λ l₈. alloc1 ! (λ l₉. alloc1 ! (λ l₁₀. alloc1 ! (λ l₁₁. alloc1 ! (λ l₁₂. alloc1 ! (λ l₁₃. alloc1 ! (λ l₁₄. alloc1 ! (λ l₁₅. alloc1 ! (λ l₁₆. alloc1 ! (λ l₁₇. alloc1 ! (λ l₁₈. alloc1 ! (λ l₁₉. alloc1 ! (λ l₂₀. alloc1 ! (λ l₂₁. alloc1 ! (λ l₂₂. alloc1 ! (λ l₂₃. alloc0 ! $ params1 ! $ pass1 ! (init ! 44 refl (LL.lawful K.the-type K′.the-laws 𝓤 H A W .typed k _ k-is .0)) $ pass1 ! (init ! 42 refl (tt, tt)) $ pass1 ! (init ! 40 refl (tt, tt)) $
         pass1 ! (init ! 38 refl (tt, (tt, (record { fits = room8 .0 }, tt)))) $ pass1 ! (init ! 36 refl (tt, (tt, (record { fits = roomb .0 }, tt)))) $ pass1 ! (init ! 34 refl (tt, (tt, (record { fits = roomu .0 }, tt)))) $ pass1 ! (init ! 32 refl (tt, (tt, (record { fits = roomr .0 }, tt)))) $ pass0 ! $ move ! (48 ∷ 49 ∷ 50 ∷ 51 ∷ 52 ∷ 53 ∷ 54 ∷ 55 ∷ 56 ∷ 57 ∷ 58 ∷ 59 ∷ []) $ rewrite ! 56 (λ (v : Val). ‵ (fat fullShare kept-ty l₁ 0 v)) (p .is-so) refl $
-        assigns ! (of-opd ! (load ! (from ! (fld ! {τ = aty} {d = 280} refl (stop !))) (look-in ! 56 {τ = aty} (sub ! 1 {τ = aty} {d = 280} refl (whole ! {τ = kept-ty}))))) (from ! (stop !)) (init ! 42 refl (array-lawful 𝓤 H A W T.the-row (LL.lawful T.the-type T′.the-laws 𝓤 H A W) 512 .typed xs _ (p .sheet-is) .0)) $ assigns ! (of-opd ! (load ! (from ! (fld ! refl (stop !))) (look-in ! 48 (sub ! 1 refl (whole !))))) (from ! (stop !)) (init ! 36 refl (tt, record { fits = roomb .0 })) $
+        assigns ! (of-opd ! (load ! (from ! (fld ! {τ = aty} {d = 280} refl (stop !))) (look-in ! 56 {τ = aty} (sub ! {τs = partsIn kept-ty} 1 {τ = aty} {d = 280} refl (whole ! {τ = kept-ty}))))) (from ! (stop !)) (init ! 42 refl (array-lawful 𝓤 H A W T.the-row (LL.lawful T.the-type T′.the-laws 𝓤 H A W) 512 .typed xs _ (p .sheet-is) .0)) $ assigns ! (of-opd ! (load ! (from ! (fld ! refl (stop !))) (look-in ! 48 (sub ! 1 refl (whole !))))) (from ! (stop !)) (init ! 36 refl (tt, record { fits = roomb .0 })) $
         -- `start`
-        use0 W (raw (Start 𝓤 H A at-mem run .pre (to-start (p .dv)))) (goes-start (p .dv) (p .device-is)) $ calls-at ! (fmOf 𝓤 H (W .laws) 𝓣) (Start 𝓤 H A at-mem run) known-start (to-start (p .dv)) (and-then ! (load ! (from ! (fld ! {τ = D′.mir} {d = 0} refl (stop !))) (look-in ! 57 {τ = D′.mir} (sub ! 0 {τ = D′.mir} {d = 0} refl (whole ! {τ = kept-ty})))) (and-then ! (load ! (from ! (stop !)) (look ! 37 refl)) (no-more !))) (λ v₀.
+        use0 W (raw (Start 𝓤 H A at-mem run .pre (to-start (p .dv)))) (goes-start (p .dv) (p .device-is)) $ calls-at ! (fmOf 𝓤 H (W .laws) 𝓣) (Start 𝓤 H A at-mem run) known-start (to-start (p .dv)) (and-then ! (load ! (from ! (fld ! {τ = D′.mir} {d = 0} refl (stop !))) (look-in ! 57 {τ = D′.mir} (sub ! {τs = partsIn kept-ty} 0 {τ = D′.mir} {d = 0} refl (whole ! {τ = kept-ty})))) (and-then ! (load ! (from ! (stop !)) (look ! 37 refl)) (no-more !))) (λ v₀.
         use1 W (later (some (λ (g : Run). (‵ ftrue ⊛ ‵ (R.the-row .own g (v₀ ∷ []))) ⊛ raw (ensured 𝓤 H A start.ended (start.clauses 𝓤 H A at-mem run) tt (k .device, (length (z .now), tt)) tt g)))) (id⊢ 𝓤 _) $ await ! tt $ pick ! (λ g. split ! $ move ! (1 ∷ []) $ use1 W (some (λ (ws : Unit {0} × (Unit {0} × Unit {0})). ‵ (lasts start.ended tt (k .device, (length (z .now), tt)) ws) ⊛ raw (fact 𝓤 (g ≡ startOf (k .device) (length (z .now)))))) (id⊢ 𝓤 _) $ pick ! (λ ws₀.
         split ! $ drop ! $ heard ! (g ≡ startOf (k .device) (length (z .now))) (λ e₀. split ! $ drop ! $ facts ! R.the-row (Is R.the-row) (shows 𝓤 H A R.the-row) g (v₀ ∷ []) (λ g-is. land ! (from ! (stop !)) (init ! 40 refl (LL.lawful R.the-type R′.the-laws 𝓤 H A W .typed g _ g-is .0)) $ assigns ! (addr ! (from ! (hop ! (look ! 54 refl) (stop !)))) (from ! (stop !)) (init ! 34 refl (tt, tt)) $ assigns ! (addr ! (from ! (hop ! (look ! 52 refl) (stop !)))) (from ! (stop !)) (init ! 32 refl (tt, tt)) $
         assigns ! (addr ! (from ! (fld ! refl (hop ! (look-in ! 50 (sub ! 0 refl (whole !))) (stop !))))) (from ! (stop !)) (init ! 30 refl (tt, tt)) $ assigns ! (agg ! (and-then ! (load ! (from ! (stop !)) (look ! 30 refl)) (and-then ! (load ! (from ! (fld ! refl (stop !))) (look-in ! 50 (sub ! 1 refl (whole !)))) (no-more !)))) (from ! (stop !)) (init ! 28 refl (tt, (tt, (record { fits = room8 .0 }, tt)))) $ assigns ! (addr ! (from ! (stop !))) (from ! (stop !)) (init ! 26 refl (tt, tt)) $
@@ -241,8 +242,8 @@ module _ {M : Type 1} (𝓤 : URA M) (H : Heap 𝓤) (A : Atoms 𝓤) (W : Given
         land ! (from ! (stop !)) (init ! 34 refl (LL.lawful R.the-type R′.the-laws 𝓤 H A W .typed h _ h-is .0)) $ rewrite ! 34 (λ (u′ : Val). ‵ (fat fullShare run-ty l₁₀ 0 u′)) (t .is-so) refl $ split ! $ move ! (1 ∷ []) $ split ! $ move ! (1 ∷ []) $ split ! $ move ! (1 ∷ []) $ split ! $ move ! (1 ∷ []) $ split ! $ move ! (1 ∷ []) $ split ! $ move ! (1 ∷ []) $ split ! $ move ! (1 ∷ []) $ drop ! $
         -- the lifetime is ended, and the local is back
         move ! (3 ∷ []) $ lft-end ! tt $ move ! (0 ∷ 13 ∷ 9 ∷ []) $ use3 W (later (‵ (Arr (mem T.the-row) (length xs) .lies zs l₈ 0))) (slice-back 𝓤 H A W T.the-row (ν ∷ []) γ zs (length xs) l₈ 0) $ await ! tt $ use1 W (given (Is Rows zs (avals zs)) (‵ (fat fullShare aty l₈ 0 (aval zs)))) (stands 𝓤 H A W l₈ zs (length xs) (p .len)) $ learn ! (λ z-is. assigns ! (of-opd ! (load ! (from ! (stop !)) (look ! 0 refl))) (from ! (stop !)) (init ! 14 refl (array-lawful 𝓤 H A W T.the-row (LL.lawful T.the-type T′.the-laws 𝓤 H A W) 512 .typed zs _ z-is .0)) $
-        assigns ! (agg ! (and-then ! (load ! (from ! (fld ! {τ = D′.mir} {d = 0} refl (stop !))) (look-in ! 38 {τ = D′.mir} (sub ! 0 {τ = D′.mir} {d = 0} refl (whole ! {τ = run-ty})))) (and-then ! (load ! (from ! (stop !)) (look ! 14 refl)) (no-more !)))) (from ! (stop !)) (init ! 12 refl (LL.lawful K.the-type K′.the-laws 𝓤 H A W .typed (record { device = h .device; sheet = zs }) _ (kept-is (h .device) (t .dv) zs (t .device-is) z-is) .0)) $
-        assigns ! (agg ! (and-then ! (load ! (from ! (stop !)) (look ! 12 refl)) (and-then ! (load ! (from ! (fld ! {τ = word} {d = 288} refl (stop !))) (look-in ! 38 {τ = word} (sub ! 2 {τ = word} {d = 288} refl (whole ! {τ = run-ty})))) (and-then ! (load ! (from ! (fld ! {τ = word} {d = 296} refl (stop !))) (look-in ! 38 {τ = word} (sub ! 3 {τ = word} {d = 296} refl (whole ! {τ = run-ty})))) (no-more !))))) (from ! (stop !)) (init ! 57 refl (LL.lawful P.the-type P′.the-laws 𝓤 H A W .typed (partWith h zs) _ (part-is h (t .dv) zs (t .device-is) (t .given-is) (t .listed-is) z-is) .0)) $
+        assigns ! (agg ! (and-then ! (load ! (from ! (fld ! {τ = D′.mir} {d = 0} refl (stop !))) (look-in ! 38 {τ = D′.mir} (sub ! {τs = partsIn run-ty} 0 {τ = D′.mir} {d = 0} refl (whole ! {τ = run-ty})))) (and-then ! (load ! (from ! (stop !)) (look ! 14 refl)) (no-more !)))) (from ! (stop !)) (init ! 12 refl (LL.lawful K.the-type K′.the-laws 𝓤 H A W .typed (record { device = h .device; sheet = zs }) _ (kept-is (h .device) (t .dv) zs (t .device-is) z-is) .0)) $
+        assigns ! (agg ! (and-then ! (load ! (from ! (stop !)) (look ! 12 refl)) (and-then ! (load ! (from ! (fld ! {τ = word} {d = 288} refl (stop !))) (look-in ! 38 {τ = word} (sub ! {τs = partsIn run-ty} 2 {τ = word} {d = 288} refl (whole ! {τ = run-ty})))) (and-then ! (load ! (from ! (fld ! {τ = word} {d = 296} refl (stop !))) (look-in ! 38 {τ = word} (sub ! {τs = partsIn run-ty} 3 {τ = word} {d = 296} refl (whole ! {τ = run-ty})))) (no-more !))))) (from ! (stop !)) (init ! 57 refl (LL.lawful P.the-type P′.the-laws 𝓤 H A W .typed (partWith h zs) _ (part-is h (t .dv) zs (t .device-is) (t .given-is) (t .listed-is) z-is) .0)) $
         returns ! (look ! 57 refl) $ forget ! 57 refl $ forget ! 55 refl $ forget ! 53 refl $ forget ! 51 refl $ forget ! 49 refl $ forget ! 47 refl $ forget ! 45 refl $ forget ! 43 refl $ forget ! 0 refl $ forget ! 40 refl $ forget ! 38 refl $ forget ! 36 refl $ forget ! 34 refl $ forget ! 32 refl $ forget ! 30 refl $ forget ! 28 refl $ forget ! 26 refl $ forget ! 24 refl $ forget ! 22 refl $ forget ! 20 refl $ forget ! 18 refl $ forget ! 16 refl $ forget ! 14 refl $ forget ! 12 refl $
         move ! (57 ∷ 58 ∷ []) $ free1 ! $ move ! (55 ∷ 56 ∷ []) $ free1 ! $ move ! (53 ∷ 54 ∷ []) $ free1 ! $ move ! (51 ∷ 52 ∷ []) $ free1 ! $ move ! (49 ∷ 50 ∷ []) $ free1 ! $ move ! (47 ∷ 48 ∷ []) $ free1 ! $ move ! (45 ∷ 46 ∷ []) $ free1 ! $ move ! (43 ∷ 44 ∷ []) $ free1 ! $ move ! (0 ∷ 42 ∷ []) $ free1 ! $ move ! (39 ∷ 40 ∷ []) $ free1 ! $ move ! (37 ∷ 38 ∷ []) $ free1 ! $ move ! (35 ∷ 36 ∷ []) $ free1 ! $ move ! (33 ∷ 34 ∷ []) $ free1 ! $ move ! (31 ∷ 32 ∷ []) $ free1 ! $ move ! (29 ∷ 30 ∷ []) $ free1 ! $ move ! (27 ∷ 28 ∷ []) $ free1 ! $ move ! (25 ∷ 26 ∷ []) $ free1 ! $ move ! (23 ∷ 24 ∷ []) $ free1 ! $ move ! (21 ∷ 22 ∷ []) $ free1 ! $ move ! (19 ∷ 20 ∷ []) $ free1 ! $ move ! (17 ∷ 18 ∷ []) $ free1 ! $ move ! (15 ∷ 16 ∷ []) $ free1 ! $ move ! (13 ∷ 14 ∷ []) $ free1 ! $ move ! (11 ∷ 12 ∷ []) $ free1 ! $ free0 ! $
         keep ! (5 ∷ 4 ∷ 3 ∷ 2 ∷ 1 ∷ 0 ∷ 10 ∷ 9 ∷ 8 ∷ 7 ∷ 6 ∷ []) $ by ! (exits h (t .dv) fs ls os zs us rs (part-is h (t .dv) zs (t .device-is) (t .given-is) (t .listed-is) z-is) (handed k (f .now) (l .now) (y .now) (z .now) (u .now) (r .now) g _ e₀ e) len₁ len₃ len₄))))))))))))))))))))))))))))))))))))))))))
