@@ -18,6 +18,7 @@ use Rattle.books.specs.declared.Memory.{Memory}
 use Rattle.books.specs.declared.Opened.{Opened}
 use Rattle.books.specs.declared.Shown.the-variants.{Nothing}
 use Rattle.books.proofs.Sounding.{zeros}
+use Rattle.sheet.proofs.Noting.{noted-length}
 use Rattle.sheet.specs.declared.Line.{Line}
 use Rattle.receipt.specs.declared.Receipt.{Receipt}
 use Rattle.rules.specs.Views.{viewOf}
@@ -38,7 +39,7 @@ use Rattle.history.proofs.Lists.{eight-at, same-eight}
 use Rattle.history.proofs.Agreeing.{agreeing, no-registers, new-receipt}
 use Rattle.history.proofs.Digits.{left-fits}
 use Rattle.history.proofs.Reaching.{fresh-reached, reached-stays}
-use Rattle.history.proofs.Sheets.{match-for, sheet-kept, room-kept, count-kept}
+use Rattle.history.proofs.Sheets.{match-for, sheet-kept, count-kept}
 use Rattle.history.proofs.Steps.{Step, refused, goes, taken}
 
 -- one command more
@@ -64,7 +65,7 @@ agreement-stays es s c k i h =
       books = more es s h k v i step;
       lines = more-lines es s h k v (e .shown) step;
       count = count-kept (figuresOf es .receipt) (h .count) (didOf e) (e .shown);
-      room = omega (arith, h .room, room-kept (s .sheet) (placeFor s v) (s .books .receipt .lines) (deedOn s v .note));
+      room = omega (arith, h .room, noted-length (deedOn s v .note) (s .sheet) (placeFor s v) (s .books .receipt .lines));
     }
 
 pub fresh-agrees : (sheet : List Line) → 512 ≤ length sheet → Agrees [] (freshStore sheet)

@@ -5,7 +5,7 @@ use mathlib.Core.List.{List, [], _∷_}
 use Prim.Native.Nat.{ℕ, zero, suc, _≤_, _<_}
 use native.Mathlib.Omega.{arith}
 use lib.Dec.{ltb}
-use lib.ListN.{length, getD, set, length-set, length-replicate}
+use lib.ListN.{length, getD, set, length-set}
 use lib.Seq.{getD-set-same, getD-set-other}
 use borrow.Author.Tests.{ltb-true, lt-ltb, le-ltb, lt-leb}
 use Rattle.basics.proofs.Tests.{both}
@@ -16,8 +16,7 @@ use Rattle.sheet.specs.Searches.{noSearch, placeOf, matchOf}
 use Rattle.sheet.specs.declared.Line.{Line}
 use Rattle.sheet.specs.declared.Match.{Match}
 use Rattle.sheet.specs.declared.Search.{Search}
-use Rattle.sheet.specs.declared.Note.{Note}
-use Rattle.sheet.specs.declared.Note.the-variants.{Nothing, Empties, Adds, TakesBack}
+use Rattle.sheet.specs.declared.Note.the-variants.{Adds, TakesBack}
 use Rattle.receipt.specs.Lines.{adjustFits, fits}
 use Rattle.receipt.specs.Receipts.{amountOf}
 use Rattle.receipt.proofs.Adjusting.{fits-parts}
@@ -197,14 +196,6 @@ module _ (es : List Entry) (s : Store) (k : Reached (s .books)) (h : Agrees es s
   sheet-kept (Puts n) shown free = h .lines
   sheet-kept (Takes n) shown free = h .lines
   sheet-kept (Asks when shown′) shown free = h .lines
-
--- no note changes the sheet's length
-pub room-kept : (sheet : List Line) (at next : ℕ) (note : Note) → length (noted sheet at next note) ≡ length sheet
-room-kept sheet at next Nothing = refl
-room-kept sheet at next Empties = length-replicate (length sheet) blank
-room-kept sheet at next (Adds l) = length-set sheet next l
-room-kept sheet at next (TakesBack l) =
-    length-set (set sheet at (takenBack (getD sheet at blank))) next l ∙ length-set sheet at (takenBack (getD sheet at blank))
 
 -- there are as many lines as are counted
 pub count-more : (minus : Bool) (s : Sale) (ls : List Line) → length (cond minus (withoutNewest s ls) ls) ≡ length ls

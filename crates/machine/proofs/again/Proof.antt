@@ -9,10 +9,11 @@ returns c = none-again (c .before .before .before .before .args .previous) (now 
 
 returns-2 : tie.Need-returns-2
 returns-2 c =
-    let start = c .before .before .before .before .before .before .before .before .before .before .before in
-    let a = start .args in (
-      again-size (a .previous) (now (a .last)) (now (a .buf)) _ _ _ (c .before .before .before .before .before .least-size .result) (c .before .before .before .before .before .before .before .previous .given .1) (c .before .before .before .before .before .least-size .ensures),
-      again-bytes (a .previous) (now (a .last)) (now (a .buf)) _ _ _ (c .before .before .before .before .before .least-size .result) (c .before .before .before .before .before .before .before .previous .given .1) (c .before .before .before .before .before .least-size .ensures) _ (c .before .before .put-bytes .ensures),
+    let size = c .before .before .before .before .before .least-size in
+    let told = c .before .before .before .before .before .before .before in
+    let a = told .before .before .before .before .args in (
+      again-size (a .previous) (now (a .last)) (now (a .buf)) _ _ _ (size .result) (told .previous .given .1) (size .ensures),
+      again-bytes (a .previous) (now (a .last)) (now (a .buf)) _ _ _ (size .result) (told .previous .given .1) (size .ensures) _ (c .before .before .put-bytes .ensures),
     )
 
 pub again-spec : {M : Type 1} → statement M

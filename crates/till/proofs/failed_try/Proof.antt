@@ -8,9 +8,10 @@ use Rattle.till.proofs.failed_try.Tie as tie
 
 returns : tie.Need-returns
 returns c =
-    let s = c .before .before .before .before .before .before .before .before .before in
+    let test = c .before .before .before .before .before .before in
+    let s = test .before .before .before in
     let a = s .args in
-    let all = says-again (a .next) (a .a) (now (a .frame)) (c .before .before .before .before .before .before .if1 .taken) (s .pre) (omega arith) _ (c .before .listen .ensures) (now (a .buf)) _ (c .before .before .before .before .put-part .ensures) in
+    let all = says-again (a .next) (a .a) (now (a .frame)) (test .if1 .taken) (s .pre) (omega arith) _ (c .before .listen .ensures) (now (a .buf)) _ (c .before .before .before .before .put-part .ensures) in
     (c .held .ensures ∙ all .0, all .1)
 
 returns-2 : tie.Need-returns-2

@@ -32,24 +32,32 @@ returns-3 c =
 
 finish-requires : tie.Need-finish-requires
 finish-requires c κs =
-    let a = c .before .before .before .before .before .before .before .before .before .before .before .before .before .args in
-    let few = carriable-short (a .seq) (a .code) (now (a .content)) (sym (c .before .before .before .before .before .before .before .before .before .can-carry .ensures) ∙ not-false _ (c .before .before .before .before .before .before .before .before .if2 .left)) in
-    (omega arith, omega (arith, c .before .before .before .put-bytes .kept, c .before .before .before .before .before .before .before .before .before .before .if1 .left))
+    let able = c .before .before .before .before .before .before .before .before in
+    let room = able .before .before in
+    let a = room .before .before .before .args in
+    let few = carriable-short (a .seq) (a .code) (now (a .content)) (sym (able .before .can-carry .ensures) ∙ not-false _ (able .if2 .left)) in
+    (omega arith, omega (arith, c .before .before .before .put-bytes .kept, room .if1 .left))
 
 returns-4 : tie.Need-returns-4
 returns-4 c =
-    let a = c .before .before .before .before .before .before .before .before .before .before .before .before .before .before .before .before .args in
+    let end = c .before .before in
+    let put-in = end .before .before .before .before in
+    let stands = put-in .before .before in
+    let able = stands .before .before .before in
+    let room = able .before .before in
+    let start = room .before .before .before in
+    let a = start .args in
     let m = answerOf (a .seq) (a .code) (now (a .content)) (a .t5) in
     let inner = now (a .content) ++ 0x04 ∷ a .t5 in
-    let six : length (a .t5) ≡ 6 = omega arith in
-    let fits = sym (c .before .before .before .before .before .before .before .before .before .before .before .before .can-carry .ensures) ∙ not-false _ (c .before .before .before .before .before .before .before .before .before .before .before .if2 .left) in
+    let six : length (a .t5) ≡ 6 = omega (arith, start .good) in
+    let fits = sym (able .before .can-carry .ensures) ∙ not-false _ (able .if2 .left) in
     let few = carriable-short (a .seq) (a .code) (now (a .content)) fits in
     let longer : length inner ≡ length (now (a .content)) + 7 = length-append (now (a .content)) (0x04 ∷ a .t5) ∙ omega arith in
-    let sent = sendable-answer (a .seq) (a .code) (now (a .content)) (a .t5) six fits (sym (c .before .before .before .before .before .before .before .before .before .all-may-stand .ensures) ∙ not-false _ (c .before .before .before .before .before .before .before .before .if3 .left)) in
-    let size : c .before .before .finish .result ≡ length (enclosed (a .seq) (a .code) inner) = c .before .before .finish .ensures .0 ∙ omega (arith, length-enclosed (a .seq) (a .code) inner) in
-    let put : c .before .before .finish .last .0 ≡ sets (now (a .buf)) 0 (enclosed (a .seq) (a .code) inner) =
-    around (now (a .buf)) (now (a .content)) (a .seq) (a .code) (λ z. z ++ 0x04 ∷ a .t5) (omega arith) (omega (arith, c .before .before .before .before .before .before .before .before .before .before .before .before .before .if1 .left)) _ _ (c .before .before .before .before .before .before .put-bytes .ensures) (c .before .before .finish .ensures .1) in
-    rw (size, put) (sym (can ToTill (now (a .buf)) m (c .before .before .before .before .before .before .before .before .before .before .before .before .before .if1 .left) sent))
+    let sent = sendable-answer (a .seq) (a .code) (now (a .content)) (a .t5) six fits (sym (stands .before .all-may-stand .ensures) ∙ not-false _ (stands .if3 .left)) in
+    let size : end .finish .result ≡ length (enclosed (a .seq) (a .code) inner) = end .finish .ensures .0 ∙ omega (arith, length-enclosed (a .seq) (a .code) inner) in
+    let put : end .finish .last .0 ≡ sets (now (a .buf)) 0 (enclosed (a .seq) (a .code) inner) =
+    around (now (a .buf)) (now (a .content)) (a .seq) (a .code) (λ z. z ++ 0x04 ∷ a .t5) (omega arith) (omega (arith, room .if1 .left)) _ _ (put-in .put-bytes .ensures) (end .finish .ensures .1) in
+    rw (size, put) (sym (can ToTill (now (a .buf)) m (room .if1 .left) sent))
 
 pub build-answer-spec : {M : Type 1} → statement M
 build-answer-spec =

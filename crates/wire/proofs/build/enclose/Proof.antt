@@ -7,16 +7,21 @@ use Rattle.wire.proofs.build.enclose.Tie as tie
 
 returns : tie.Need-returns
 returns c =
-    let s = c .before .before .before .before .before .before .before .before .before .before .before .before .before .before .before .before .before .before .before .before .before .before .before in
+    let last = c .before .before in
+    let quad = last .before .before .before .before in
+    let digits = quad .before .before .before in
+    let five = digits .before .before .before .before .before .before in
+    let head = five .before .before .before .before in
+    let s = head .before .before .before .before in
     let a = s .args in (
       refl,
       enclosing (now (a .buf)) (a .n) (a .seq) (a .code) (s .pre .1) _ _ _ _ _ _
-          (c .before .before .before .before .before .before .before .before .before .before .before .before .before .before .before .before .before .before .before .put-bytes .ensures)
-          (c .before .before .before .before .before .before .before .before .before .before .before .before .before .before .before .put-byte .ensures)
-          (c .before .before .before .before .before .before .before .before .before .before .sum-of .ensures)
-          (c .before .before .before .before .before .before .before .before .before .bcc-bytes .ensures)
-          (c .before .before .before .before .before .before .put-bytes2 .ensures)
-          (c .before .before .put-byte2 .ensures),
+          (head .put-bytes .ensures)
+          (five .put-byte .ensures)
+          (digits .before .sum-of .ensures)
+          (digits .bcc-bytes .ensures)
+          (quad .put-bytes2 .ensures)
+          (last .put-byte2 .ensures),
     )
 
 pub enclose-spec : {M : Type 1} → statement M

@@ -9,11 +9,14 @@ use Rattle.wire.proofs.build.finish.Tie as tie
 
 returns : tie.Need-returns
 returns c =
-    let s = c .before .before .before .before .before .before .before .before .before .before .before .before .before .before in
+    let end = c .before .before in
+    let status = end .before .before .before .before in
+    let four = status .before .before .before .before .before in
+    let s = four .before .before .before in
     let a = s .args in
-    let six : length (a .t5) ≡ 6 = omega arith in (
-      c .before .before .enclose .ensures .0 ∙ omega arith,
-      finishing (now (a .buf)) (a .t5) (a .n) (a .seq) (a .code) (s .pre .1) six _ _ _ (c .before .before .before .before .before .before .before .before .before .before .before .put-byte .ensures) (c .before .before .before .before .before .before .put-bytes .ensures) (c .before .before .enclose .ensures .1),
+    let six : length (a .t5) ≡ 6 = omega (arith, s .good) in (
+      end .enclose .ensures .0 ∙ omega arith,
+      finishing (now (a .buf)) (a .t5) (a .n) (a .seq) (a .code) (s .pre .1) six _ _ _ (four .put-byte .ensures) (status .put-bytes .ensures) (end .enclose .ensures .1),
     )
 
 pub finish-spec : {M : Type 1} → statement M
