@@ -73,7 +73,7 @@ cases =
     ∷ [])
     (marked 0x20 48 ∷ marked 0x21 49 ∷ marked 0x22 51 ∷ [])
     -- PROTOCOL 5.4 to 5.7: that line and 12.00, both in B, come to 12.67; paid with 20.00, 7.33 are given back. PROTOCOL 6.6, 6.7: then 65 with `1` has a tax of
-    -- 2.12 for B, and 70 has 12.67 in the drawer
+    -- 2.11 for B, and 70 has 12.67 in the drawer
     ∷ talk 5
     (opens
     ∷ asks 0x21 49 "\tB1.99*0.375,-10" "" fiscal
@@ -81,7 +81,7 @@ cases =
     ∷ asks 0x23 51 "00" "0000001267,0000000000,0000001267,0000000000,0000000000,0000000000,0000000000,0000000000,0000000000" fiscal
     ∷ asks 0x24 53 "\tP20" "R0000000733" fiscal
     ∷ asks 0x25 56 "" "0001,0001" idle
-    ∷ asks 0x26 65 "1" "000000000000,000000000212,000000000000,000000000000,000000000000,000000000000,000000000000,000000000000" idle
+    ∷ asks 0x26 65 "1" "000000000000,000000000211,000000000000,000000000000,000000000000,000000000000,000000000000,000000000000" idle
     ∷ asks 0x27 70 "" "P,000000001267,000000000000,000000000000" idle
     ∷ [])
     (marked 0x20 48 ∷ marked 0x21 49 ∷ marked 0x22 49 ∷ marked 0x23 51 ∷ marked 0x24 53 ∷ marked 0x25 56 ∷ marked 0x26 65 ∷ marked 0x27 70 ∷ [])
