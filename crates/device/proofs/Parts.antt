@@ -23,17 +23,18 @@ use Rattle.sheet.proofs.Writes as R
 use Rattle.sheet.proofs.Writes.Laws as R′
 use Rattle.machine.specs.declared.Begun.{Begun}
 use Rattle.machine.specs.declared.Device.{Device}
-use Rattle.machine.specs.declared.Ended.{Ended}
+use Rattle.giving.specs.declared.Ended.{Ended}
 use Rattle.machine.specs.Hearing.{PartHeard, partOf, afterPart}
-use Rattle.machine.specs.Halves.{FirstHalf, SecondHalf, beginning, ending}
-use Rattle.machine.specs.Together.{putTogether, goingOn, together}
-use Rattle.machine.proofs.Joining.{joined}
+use Rattle.machine.specs.Beginning.{FirstHalf, beginning}
+use Rattle.giving.specs.Ending.{SecondHalf, ending}
+use Rattle.giving.specs.Together.{putTogether, goingOn, together}
+use Rattle.giving.proofs.Joining.{joined}
 use Rattle.machine.proofs.Begun as B
 use Rattle.machine.proofs.Begun.Laws as B′
 use Rattle.machine.proofs.Device as D
 use Rattle.machine.proofs.Device.Laws as D′
-use Rattle.machine.proofs.Ended as E
-use Rattle.machine.proofs.Ended.Laws as E′
+use Rattle.giving.proofs.Ended as E
+use Rattle.giving.proofs.Ended.Laws as E′
 use Rattle.machine.proofs.Hearing as N
 use Rattle.machine.proofs.Hearing.Laws as N′
 

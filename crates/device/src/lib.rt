@@ -31,7 +31,7 @@ pub fn hear(
     let begun = machine::begin(device, frame, buf.len(), lines, bytes, from);
     let at = sheet::find(sheet, begun.lines, begun.wanted);
     let found = sheet::get(sheet, at);
-    let ended = machine::finish(begun, at, found, last, buf);
+    let ended = giving::finish(begun, at, found, last, buf);
     sheet::tell(sheet, ended.writes);
     ended.hearing
 }

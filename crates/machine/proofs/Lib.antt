@@ -1,7 +1,6 @@
 pub mod Working
-pub mod Halving
+pub mod Beginning
 pub mod Turning
 pub mod Parts
-pub mod Joining
 pub mod Taking
 pub mod Fitting

@@ -68,26 +68,27 @@ use Rattle.sheet.proofs.tell.Symbol.{name as #sheet·tell}
 use Rattle.sheet.proofs.tell.Met as tell-thm
 use Rattle.machine.specs.declared.Begun.{Begun}
 use Rattle.machine.specs.declared.Device.{Device}
-use Rattle.machine.specs.declared.Ended.{Ended}
+use Rattle.giving.specs.declared.Ended.{Ended}
 use Rattle.machine.specs.declared.Hearing.{Hearing}
 use Rattle.machine.specs.Hearing.{partOf, afterPart}
-use Rattle.machine.specs.Halves.{beginning, ending}
+use Rattle.machine.specs.Beginning.{beginning}
+use Rattle.giving.specs.Ending.{ending}
 use Rattle.machine.proofs.Begun as B
 use Rattle.machine.proofs.Begun.Laws as B′
 use Rattle.machine.proofs.Device as D
 use Rattle.machine.proofs.Device.Laws as D′
-use Rattle.machine.proofs.Ended as E
-use Rattle.machine.proofs.Ended.Laws as E′
+use Rattle.giving.proofs.Ended as E
+use Rattle.giving.proofs.Ended.Laws as E′
 use Rattle.machine.proofs.Hearing as N
 use Rattle.machine.proofs.Hearing.Laws as N′
 use Rattle.machine.proofs.begin as begin
 use Rattle.machine.proofs.begin.Symbol as begin-def
 use Rattle.machine.proofs.begin.Symbol.{name as #machine·begin}
 use Rattle.machine.proofs.begin.Met as begin-thm
-use Rattle.machine.proofs.finish as finish
-use Rattle.machine.proofs.finish.Symbol as finish-def
-use Rattle.machine.proofs.finish.Symbol.{name as #machine·finish}
-use Rattle.machine.proofs.finish.Met as finish-thm
+use Rattle.giving.proofs.finish as finish
+use Rattle.giving.proofs.finish.Symbol as finish-def
+use Rattle.giving.proofs.finish.Symbol.{name as #giving·finish}
+use Rattle.giving.proofs.finish.Met as finish-thm
 use Rattle.device.proofs.Asked.{Length, Find, Get, length-is, found-is, got-is, x, Shown, to-length, goes-length, to-find, goes-find, to-get, goes-get}
 use Rattle.device.proofs.Locals.{typeOf, partsIn, headIn}
 use Rattle.device.proofs.Parts.{BegunApart, apart-begun, EndedApart, apart-ended, the-call}
@@ -225,7 +226,7 @@ module _ {M : Type 1} (𝓤 : URA M) (H : Heap 𝓤) (A : Atoms 𝓤) (W : Given
       nothing ! $ move ! (2 ∷ 0 ∷ []) $ join ! $ join ! $ nothing ! $ move ! (1 ∷ 0 ∷ []) $ join ! $ done !
 
   module _ (C : Calls 𝓤 H) (Λ : Loops 𝓤 H) (fm : FmC 𝓤 H (W .laws) C) (known-length : Triple 𝓤 (C #sheet·length-of) (Length 𝓤 H A mem run)) (known-begin : Triple 𝓤 (C #machine·begin) (Begin 𝓤 H A mem run)) (known-find : Triple 𝓤 (C #sheet·find) (Find 𝓤 H A mem run)) (known-get : Triple 𝓤 (C #sheet·get) (Get 𝓤 H A mem run))
-      (known-finish : Triple 𝓤 (C #machine·finish) (Finish 𝓤 H A mem run)) (known-tell : Triple 𝓤 (C #sheet·tell) (Tell 𝓤 H A mem run)) where
+      (known-finish : Triple 𝓤 (C #giving·finish) (Finish 𝓤 H A mem run)) (known-tell : Triple 𝓤 (C #sheet·tell) (Tell 𝓤 H A mem run)) where
     walk : ent 𝓤 (onEntry 𝓤 H A hear.signature (κf, (κl, (κo, (κ, (κb, tt))))) (qf, (ql, (qo, (q, (qb, tt))))) a at) (WpFn 𝓤 H C Λ code.function (dv ∷ vptr (f .ptr .0) (f .ptr .1) ∷ vptr (l .ptr .0) (l .ptr .1) ∷ t ∷ s ∷ u ∷ nv ∷ []) Post)
     walk =
         qed W ((‵ (flft κf qf) ⊛ (‵ (flft κl ql) ⊛ (‵ (flft κo qo) ⊛ (‵ (flft κ q) ⊛ (‵ (flft κb qb) ⊛ ‵ ftrue))))) ∷ ‵ (owns (D.the-row ∷ MutRef (named 0) κf (Array u8 256) ∷ MutRef (named 1) κl (Array u8 217) ∷ MutSlice (named 2) κo u8 ∷ MutSlice (named 3) κ L.the-row ∷ ShrSlice (named 4) κb u8 ∷ usize ∷ []) a at) ∷ []) ∵
@@ -311,7 +312,7 @@ module _ {M : Type 1} (𝓤 : URA M) (H : Heap 𝓤) (A : Atoms 𝓤) (W : Given
         (the-call d (f .now) (l .now) (y .now) ys (dropN n (z .now)) m g (rs .1 .0) i r e (ws .1 .1 .1 .0) (ws .1 .1 .1 .1 .0) (zs .0) e₁ e₂ e₃ e₄ e₅ e₇ e₆, e₆) len₁ len₂))))))))))))))))))))))))))))))))))))))))))))))))))))))))))))
 
 module _ {M : Type 1} (𝓤 : URA M) (H : Heap 𝓤) (A : Atoms 𝓤) (W : Given 𝓤 H A) (mem : Memory → SProp 𝓤) (run : Routine → Fun 𝓤) where
-  hear-walks : (C : Calls 𝓤 H) (Λ : Loops 𝓤 H) → FmC 𝓤 H (W .laws) C → Triple 𝓤 (C #sheet·length-of) (Length 𝓤 H A mem run) → Triple 𝓤 (C #machine·begin) (Begin 𝓤 H A mem run) → Triple 𝓤 (C #sheet·find) (Find 𝓤 H A mem run) → Triple 𝓤 (C #sheet·get) (Get 𝓤 H A mem run) → Triple 𝓤 (C #machine·finish) (Finish 𝓤 H A mem run) → Triple 𝓤 (C #sheet·tell) (Tell 𝓤 H A mem run)
+  hear-walks : (C : Calls 𝓤 H) (Λ : Loops 𝓤 H) → FmC 𝓤 H (W .laws) C → Triple 𝓤 (C #sheet·length-of) (Length 𝓤 H A mem run) → Triple 𝓤 (C #machine·begin) (Begin 𝓤 H A mem run) → Triple 𝓤 (C #sheet·find) (Find 𝓤 H A mem run) → Triple 𝓤 (C #sheet·get) (Get 𝓤 H A mem run) → Triple 𝓤 (C #giving·finish) (Finish 𝓤 H A mem run) → Triple 𝓤 (C #sheet·tell) (Tell 𝓤 H A mem run)
       → Walks 𝓤 H A hear.ended stayed (WpFn 𝓤 H C Λ code.function) (hear.clauses 𝓤 H A mem run)
   hear-walks C Λ fm k₁ k₂ k₃ k₄ k₅ k₆ = walked 𝓤 H A hear.ended stayed (hear.clauses 𝓤 H A mem run) (WpFn 𝓤 H C Λ code.function)
       (λ κs. ((λ d. LL.val D.the-type D′.the-laws d ∷ []), (ptr-vals, (ptr-vals, (slice-vals, (slice-vals, (slice-vals, (uint-vals w64, tt))))))))
@@ -320,7 +321,7 @@ module _ {M : Type 1} (𝓤 : URA M) (H : Heap 𝓤) (A : Atoms 𝓤) (W : Given
       (a .1 .1 .1 .1 .0 .ptr .0) (a .1 .1 .1 .1 .0 .ptr .1) (a .1 .1 .1 .1 .0 .name) (a .1 .1 .1 .1 .0 .now) (a .1 .1 .1 .1 .1 .0) (a .1 .1 .1 .1 .1 .1 .0) (vint w64 (a .1 .1 .1 .1 .1 .1 .0)) (are .0) (are .1 .1 .1 .0 .0 .1) (are .1 .1 .1 .1 .0 .0 .1) (are .1 .1 .1 .1 .1 .0 .0 .1) (are .1 .1 .1 .1 .1 .1 .0) C Λ fm k₁ k₂ k₃ k₄ k₅ k₆))
 
 hear-meets : {M : Type 1} (𝓤 : URA M) (H : Heap 𝓤) (A : Atoms 𝓤) → Given 𝓤 H A → (mem : Memory → SProp 𝓤) (run : Routine → Fun 𝓤) (𝓣 : Tables 𝓤 H)
-    → Triple 𝓤 (𝓣 .C #sheet·length-of) (Length 𝓤 H A mem run) → Triple 𝓤 (𝓣 .C #machine·begin) (Begin 𝓤 H A mem run) → Triple 𝓤 (𝓣 .C #sheet·find) (Find 𝓤 H A mem run) → Triple 𝓤 (𝓣 .C #sheet·get) (Get 𝓤 H A mem run) → Triple 𝓤 (𝓣 .C #machine·finish) (Finish 𝓤 H A mem run) → Triple 𝓤 (𝓣 .C #sheet·tell) (Tell 𝓤 H A mem run)
+    → Triple 𝓤 (𝓣 .C #sheet·length-of) (Length 𝓤 H A mem run) → Triple 𝓤 (𝓣 .C #machine·begin) (Begin 𝓤 H A mem run) → Triple 𝓤 (𝓣 .C #sheet·find) (Find 𝓤 H A mem run) → Triple 𝓤 (𝓣 .C #sheet·get) (Get 𝓤 H A mem run) → Triple 𝓤 (𝓣 .C #giving·finish) (Finish 𝓤 H A mem run) → Triple 𝓤 (𝓣 .C #sheet·tell) (Tell 𝓤 H A mem run)
     → Meets 𝓤 H A hear.signature (WpFn 𝓤 H (𝓣 .C) (𝓣 .Λ) code.function) (hear.spec 𝓤 H A mem run)
 hear-meets 𝓤 H A W mem run 𝓣 k₁ k₂ k₃ k₄ k₅ k₆ =
     walk-meets 𝓤 H A hear.ended stayed W
@@ -337,5 +338,5 @@ hear-spec 𝓤 H 𝓜 𝓖 𝓡 =
     (cited 𝓤 H (Begin 𝓤 H (𝓖 .A) (𝓜 .mem) (𝓡 .run)) 𝓜 𝓡 code.env #machine·begin begin-def.routine code.calls-machine·begin (begin-thm.met 𝓤 H 𝓜 𝓖 𝓡))
     (cited 𝓤 H (Find 𝓤 H (𝓖 .A) (𝓜 .mem) (𝓡 .run)) 𝓜 𝓡 code.env #sheet·find find-def.routine code.calls-sheet·find (find-thm.met 𝓤 H 𝓜 𝓖 𝓡))
     (cited 𝓤 H (Get 𝓤 H (𝓖 .A) (𝓜 .mem) (𝓡 .run)) 𝓜 𝓡 code.env #sheet·get get-def.routine code.calls-sheet·get (get-thm.met 𝓤 H 𝓜 𝓖 𝓡))
-    (cited 𝓤 H (Finish 𝓤 H (𝓖 .A) (𝓜 .mem) (𝓡 .run)) 𝓜 𝓡 code.env #machine·finish finish-def.routine code.calls-machine·finish (finish-thm.met 𝓤 H 𝓜 𝓖 𝓡))
+    (cited 𝓤 H (Finish 𝓤 H (𝓖 .A) (𝓜 .mem) (𝓡 .run)) 𝓜 𝓡 code.env #giving·finish finish-def.routine code.calls-giving·finish (finish-thm.met 𝓤 H 𝓜 𝓖 𝓡))
     (cited 𝓤 H (Tell 𝓤 H (𝓖 .A) (𝓜 .mem) (𝓡 .run)) 𝓜 𝓡 code.env #sheet·tell tell-def.routine code.calls-sheet·tell (tell-thm.met 𝓤 H 𝓜 𝓖 𝓡)))

@@ -1,8 +1,8 @@
 use mathlib.Core.Path.{sym, ap, _∙_}
 use native.Mathlib.Omega.{arith}
 use denote.Ref.{now}
-use Rattle.machine.specs.Halves.{askedOf}
-use Rattle.machine.proofs.Halving.{asked-is}
+use Rattle.machine.specs.Beginning.{askedOf}
+use Rattle.machine.proofs.Beginning.{asked-is}
 use borrow.Author.Needs.{needs}
 use Rattle.machine.proofs.ask.Statement.{statement}
 use Rattle.machine.proofs.ask.Tie as tie

@@ -3,7 +3,7 @@ use borrow.Author.Tests.{not-true, not-false}
 use denote.Ref.{now}
 use lib.ListN.{drop}
 use Rattle.line.specs.Listening.{listenedTo, frameBehind}
-use Rattle.machine.proofs.Halving.{too-little, heard-first, rest-from}
+use Rattle.machine.proofs.Beginning.{too-little, heard-first, rest-from}
 use borrow.Author.Needs.{needs}
 use Rattle.machine.proofs.begin.Statement.{statement}
 use Rattle.machine.proofs.begin.Tie as tie

@@ -6,11 +6,11 @@ use native.Mathlib.Omega.{arith}
 use lib.Dec.{leb}
 use borrow.Author.Tests.{not-true, not-false, lt-leb, le-leb}
 use denote.Ref.{now}
-use Rattle.machine.specs.declared.Ended.{Ended}
-use Rattle.machine.proofs.Halving.{not-ended, ended-so}
+use Rattle.giving.specs.declared.Ended.{Ended}
+use Rattle.giving.proofs.Ending.{not-ended, ended-so}
 use borrow.Author.Needs.{needs}
-use Rattle.machine.proofs.finish.Statement.{statement}
-use Rattle.machine.proofs.finish.Tie as tie
+use Rattle.giving.proofs.finish.Statement.{statement}
+use Rattle.giving.proofs.finish.Tie as tie
 
 none : (x : Bool) (n : ℕ) → not x ≡ true → x && leb 217 n ≡ false
 none x n e = ap (λ z. z && leb 217 n) (not-true x e)

@@ -1,81 +1,26 @@
--- A call of the device in two halves, neither of which sees the sheet: what is heard, and what it looks for in the sheet; then, with the line found there,
--- what is given back, and what is written into the sheet.
+-- The second half of a call of the device: with the line found in the sheet, what is given back, and what is written into the sheet.
 use Prim.Native.Nat.{ℕ}
-use mathlib.Core.Bool.{Bool, true, false, cond, _&&_}
+use mathlib.Core.Bool.{false, cond, _&&_}
 use mathlib.Core.List.{List, [], _∷_}
 use lib.Dec.{leb}
-use lib.ListN.{length, take, drop}
+use lib.ListN.{length, take}
 use lib.Seq.{sets}
-use Rattle.kinds.specs.declared.Parsed.{Parsed}
-use Rattle.kinds.specs.declared.Parsed.the-variants.{Unknown}
-use Rattle.command.specs.Commands.{parsedOf}
 use Rattle.sheet.specs.Sheet.{matchAt}
-use Rattle.sheet.specs.Searches.{noSearch}
 use Rattle.sheet.specs.Notes.{putBack, writesOf}
 use Rattle.sheet.specs.declared.Line.{Line}
 use Rattle.sheet.specs.declared.Writes.{Writes}
-use Rattle.books.specs.declared.Books.{Books}
 use Rattle.line.specs.Turns.{lastAnswer}
 use Rattle.line.specs.Calls.{beforeOf, callNumber}
-use Rattle.line.specs.Listening.{listenedTo, frameBehind}
 use Rattle.line.specs.declared.Call.{Call}
 use Rattle.line.specs.declared.Call.the-variants.{Quiet, Nak, Again, Order}
-use Rattle.line.specs.declared.Listened.{Listened}
 use Rattle.line.specs.declared.Previous.the-variants.{Frame}
-use Rattle.carrying.specs.Carrying.{searchIn}
 use Rattle.carrying.specs.Work.{Worked, worked}
 use Rattle.carrying.specs.declared.Work.{Work}
-use Rattle.machine.specs.declared.Asked.{Asked}
 use Rattle.machine.specs.declared.Begun.{Begun}
-use Rattle.machine.specs.declared.Device.{Device}
-use Rattle.machine.specs.declared.Ended.{Ended}
+use Rattle.giving.specs.declared.Ended.{Ended}
 use Rattle.machine.specs.declared.Given.{Given}
 
--- PROTOCOL 2.4: as `enough` has it, of lengths
-abbrev pub longEnough : (room lines : ℕ) → Bool
-longEnough room lines = leb 217 room && leb 512 lines
-
--- PROTOCOL 1.11, 5.4: a command's data, which stands in the frame from its fourth byte on, as it is read, and what it looks for; nothing else looks for anything
-abbrev pub asking : Books → Parsed → Asked
-asking b p = record { parsed = p; search = searchIn b p }
-
-abbrev pub askedOf : Books → Call → List ℕ → Asked
-askedOf b Quiet frame = record { parsed = Unknown; search = noSearch }
-askedOf b Nak frame = record { parsed = Unknown; search = noSearch }
-askedOf b Again frame = record { parsed = Unknown; search = noSearch }
-askedOf b (Order seq code n) frame = asking b (parsedOf code (take n (drop 3 frame)))
-
--- the first half: the bytes listened to; with too little lent none is
-abbrev pub begunBy : Books → Listened → Asked → Begun
-begunBy b x q =
-    record {
-      device = record { line = x .line; books = b };
-      call = x .call;
-      taken = x .taken;
-      parsed = q .parsed;
-      lines = q .search .lines;
-      wanted = q .search .wanted;
-      enough = true;
-    }
-
-abbrev pub notBegun : Device → Begun
-notBegun d =
-    record { device = d; call = Quiet; taken = 0; parsed = Unknown; lines = 0; wanted = noSearch .wanted; enough = false }
-
-pub record FirstHalf : Type 0 where
-  pub begun : Begun
-  pub frame : List ℕ
-
-abbrev pub beginning : Device → (frame : List ℕ) → (room lines : ℕ) → (bytes : List ℕ) → FirstHalf
-beginning d frame room lines bytes =
-    cond (longEnough room lines)
-    (record {
-      begun = begunBy (d .books) (listenedTo (d .line) frame bytes) (askedOf (d .books) (listenedTo (d .line) frame bytes .call) (frameBehind (d .line) frame bytes));
-      frame = frameBehind (d .line) frame bytes;
-    })
-    (record { begun = notBegun d; frame = frame })
-
--- the second half: what is given back, what is kept of it, and what is written into the sheet
+-- what is given back, what is kept of it, and what is written into the sheet
 pub record SecondHalf : Type 0 where
   pub ended : Ended
   pub last : List ℕ

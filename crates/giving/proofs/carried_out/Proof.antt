@@ -1,9 +1,9 @@
 use mathlib.Core.Path.{ap}
 use Rattle.line.specs.declared.Previous.the-variants.{Frame}
-use Rattle.machine.specs.Halves.{endedBy}
+use Rattle.giving.specs.Ending.{endedBy}
 use borrow.Author.Needs.{needs}
-use Rattle.machine.proofs.carried_out.Statement.{statement}
-use Rattle.machine.proofs.carried_out.Tie as tie
+use Rattle.giving.proofs.carried_out.Statement.{statement}
+use Rattle.giving.proofs.carried_out.Tie as tie
 
 returns : tie.Need-returns
 returns c =

@@ -5,9 +5,10 @@ use lib.ListN.{length, getD}
 use Rattle.sheet.specs.Sheet.{blank, newest}
 use Rattle.sheet.specs.Notes.{written}
 use Rattle.sheet.specs.declared.Line.{Line}
 use Rattle.machine.specs.Hearing.{PartHeard, partOf}
-use Rattle.machine.specs.Halves.{FirstHalf, SecondHalf, beginning, ending}
+use Rattle.machine.specs.Beginning.{FirstHalf, beginning}
+use Rattle.giving.specs.Ending.{SecondHalf, ending}
 use Rattle.machine.specs.declared.Device.{Device}
 
 abbrev pub putTogether : FirstHalf → SecondHalf → List Line → PartHeard
 putTogether f e sheet = partOf (e .ended .hearing) (f .frame) (e .last) (e .buffer) (written sheet (e .ended .writes)) (length sheet)

@@ -28,15 +28,16 @@ use Rattle.deeds.specs.declared.Deed.{Deed}
 use Rattle.carrying.specs.Carrying.{searchIn, deedFor, answerBytes}
 use Rattle.carrying.specs.Work.{Worked, worked, workDone}
 use Rattle.carrying.proofs.Working.{worked-long}
 use Rattle.machine.specs.Device.{Lent, enough, Machine, notTaken}
 use Rattle.machine.specs.Answering.{answering}
 use Rattle.machine.specs.Hearing.{PartHeard, partOf, hearing, afterPart}
-use Rattle.machine.specs.Halves.{longEnough, askedOf, begunBy, notBegun, FirstHalf, SecondHalf, endedWith, carriedBehind, endingAs, ending}
-use Rattle.machine.specs.Together.{putTogether, searchedAt, goingOn, together}
+use Rattle.machine.specs.Beginning.{longEnough, askedOf, begunBy, notBegun, FirstHalf}
+use Rattle.giving.specs.Ending.{SecondHalf, endedWith, carriedBehind, endingAs, ending}
+use Rattle.giving.specs.Together.{putTogether, searchedAt, goingOn, together}
 use Rattle.machine.specs.declared.Begun.{Begun}
 use Rattle.machine.specs.declared.Device.{Device}
 use Rattle.machine.proofs.Working.{front-stands}
 use Rattle.machine.proofs.Parts.{at, halves, two-halves, part-long}
 
 module _ (d : Device) (last buffer : List ℕ) (sheet : List Line) where
   abbrev lent : Lent

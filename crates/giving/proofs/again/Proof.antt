@@ -1,8 +1,8 @@
 use denote.Ref.{now}
 use Rattle.machine.proofs.Working.{none-again, again-size, again-bytes}
 use borrow.Author.Needs.{needs}
-use Rattle.machine.proofs.again.Statement.{statement}
-use Rattle.machine.proofs.again.Tie as tie
+use Rattle.giving.proofs.again.Statement.{statement}
+use Rattle.giving.proofs.again.Tie as tie
 
 returns : tie.Need-returns
 returns c = none-again (c .before .before .before .before .args .previous) (now (c .before .before .before .before .args .last)) (now (c .before .before .before .before .args .buf)) (c .enum-told .given .1)

@@ -1,9 +1,9 @@
 use mathlib.Core.Path.{ap}
 use Rattle.sheet.specs.declared.Writes.{Writes}
-use Rattle.machine.specs.Halves.{endedBy}
+use Rattle.giving.specs.Ending.{endedBy}
 use borrow.Author.Needs.{needs}
-use Rattle.machine.proofs.end_with.Statement.{statement}
-use Rattle.machine.proofs.end_with.Tie as tie
+use Rattle.giving.proofs.end_with.Statement.{statement}
+use Rattle.giving.proofs.end_with.Tie as tie
 
 returns : tie.Need-returns
 returns c =

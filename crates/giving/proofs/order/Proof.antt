@@ -1,11 +1,11 @@
 use mathlib.Core.Path.{ap}
 use native.Mathlib.Omega.{arith}
 use denote.Ref.{now}
-use Rattle.machine.specs.declared.Ended.{Ended}
-use Rattle.machine.proofs.Halving.{order-is}
+use Rattle.giving.specs.declared.Ended.{Ended}
+use Rattle.giving.proofs.Ending.{order-is}
 use borrow.Author.Needs.{needs}
-use Rattle.machine.proofs.order.Statement.{statement}
-use Rattle.machine.proofs.order.Tie as tie
+use Rattle.giving.proofs.order.Statement.{statement}
+use Rattle.giving.proofs.order.Tie as tie
 
 part-put-bytes-end : tie.Need-part-put-bytes-end
 part-put-bytes-end c =

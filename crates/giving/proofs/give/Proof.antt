@@ -1,12 +1,12 @@
 use mathlib.Core.Path.{ap}
 use native.Mathlib.Omega.{arith}
 use denote.Ref.{now}
-use Rattle.machine.specs.declared.Ended.{Ended}
+use Rattle.giving.specs.declared.Ended.{Ended}
 use Rattle.machine.proofs.Working.{again-few}
-use Rattle.machine.proofs.Halving.{end-quiet, end-nak, end-again, end-order}
+use Rattle.giving.proofs.Ending.{end-quiet, end-nak, end-again, end-order}
 use borrow.Author.Needs.{needs}
-use Rattle.machine.proofs.give.Statement.{statement}
-use Rattle.machine.proofs.give.Tie as tie
+use Rattle.giving.proofs.give.Statement.{statement}
+use Rattle.giving.proofs.give.Tie as tie
 
 returns : tie.Need-returns
 returns c =

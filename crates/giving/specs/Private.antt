@@ -1,4 +1,4 @@
--- What the private functions of the device ask of each other. No promise to a caller rests on it.
+-- What the private functions ask of each other. No promise to a caller rests on it.
 use Prim.Native.Nat.{ℕ, _≤_}
 use mathlib.Core.Path.{_≡_}
 use mathlib.Core.List.{List}
