@@ -31,7 +31,8 @@ use Rattle.attempts.specs.Handed.{Handed, handedIn, AllInPlace}
 use Rattle.attempts.proofs.Handing.{seqs-differ, frames-are-tries}
 use Rattle.carrying.specs.Carrying.{carry}
 use Rattle.machine.specs.Device.{storeOf}
-use Rattle.recorder.specs.Recording.{recording, listing, toldIn}
+use Rattle.tape.specs.Noting.{listing}
+use Rattle.recorder.specs.Recording.{recording, toldIn}
 use Rattle.promises.specs.Coded.{Machines, Fresh, HeardThrough}
 use Rattle.promises.specs.Demand3.{eachArrives, allArrive, eachOneWhole, framesArriving, bytesArriving, takenCommands, overTheLine}
 use Rattle.promises.proofs.Through.{the-calls-are-the-recording}

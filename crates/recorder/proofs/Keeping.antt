@@ -15,8 +15,10 @@ use Rattle.sheet.proofs.Line.Laws as T′
 use Rattle.machine.specs.declared.Device.{Device}
 use Rattle.machine.proofs.Device as D
 use Rattle.machine.proofs.Device.Laws as D′
-use Rattle.recorder.specs.Running.{Running, heardThrough, startOf, handedBack, partHeard}
-use Rattle.recorder.specs.declared.Run.{Run}
+use Rattle.tape.specs.Noting.{startOf}
+use Rattle.runs.specs.Running.{Running, heardThrough}
+use Rattle.recorder.specs.Parts.{handedBack, partHeard}
+use Rattle.tape.specs.declared.Run.{Run}
 use Rattle.recorder.specs.declared.Part.{Part}
 use Rattle.device.specs.declared.Kept.{Kept}
 use Rattle.device.proofs.Kept as K

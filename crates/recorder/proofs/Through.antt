@@ -25,11 +25,13 @@ use Rattle.machine.proofs.Parts.{behind, part-is, part-long}
 use Rattle.machine.proofs.Parts as parts
 use Rattle.machine.proofs.Taking.{part-within, part-some}
 use Rattle.machine.proofs.Fitting.{Fits, heard-fits}
-use Rattle.recorder.specs.Recording.{recording, listing, Told, toldIn}
-use Rattle.recorder.specs.Running.{Running, placeAfter, machineIn, lentIn, oneCall, callsLeft, heardThrough, startOf, PartLeft, partLeft, partHeard}
+use Rattle.recorder.specs.Recording.{recording, Told, toldIn}
+use Rattle.tape.specs.Noting.{listing, placeAfter, startOf}
+use Rattle.runs.specs.Running.{Running, machineIn, lentIn, oneCall, callsLeft, heardThrough}
+use Rattle.recorder.specs.Parts.{PartLeft, partLeft, partHeard}
 use Rattle.recorder.specs.declared.Part.{Part}
 use Rattle.recorder.proofs.Listening.{onto, onto-behind}
-use Rattle.recorder.proofs.Calling.{fewer-left, run-turn, run-done}
+use Rattle.runs.proofs.Calling.{fewer-left, run-turn, run-done}
 
 -- what holds between two calls; all of it comes to `target`
 pub record Head (bytes : List ℕ) (target : Told) (s : Running) : Type 0 where

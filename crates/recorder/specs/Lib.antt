@@ -1,2 +1,2 @@
 pub mod Recording
-pub mod Running
+pub mod Parts

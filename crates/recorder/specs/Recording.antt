@@ -1,26 +1,17 @@
 -- PROTOCOL 1.1: a recording, all the bytes that a fresh device heard; it is always lent its 217 bytes, and the same sheet of 512 lines, whatever that held.
-use Prim.Native.Nat.{ℕ, _+_, _%_, min}
-use mathlib.Core.List.{List, [], _∷_, _++_}
+use Prim.Native.Nat.{ℕ, min}
+use mathlib.Core.List.{List}
 use lib.ListN.{length}
 use lib.Seq.{sets}
-use Rattle.wire.specs.Frame.{Message}
 use Rattle.line.specs.Turns.{Session, session, switchedOn}
 use Rattle.sheet.specs.declared.Line.{Line}
 use Rattle.store.specs.Store.{Store, freshStore}
 use Rattle.carrying.specs.Carrying.{carry}
+use Rattle.tape.specs.Noting.{listing}
 use Rattle.recorder.specs.declared.Recorded.{Recorded}
 
 abbrev pub recording : List Line → List ℕ → Session Store
 recording sheet bytes = session carry (switchedOn (freshStore sheet)) bytes
-
--- DECISIONS 32: a command in the list of those carried out: SEQ, CMD, the number of its data bytes, the data. PROTOCOL 1.2: there are at most 200, so that one
--- byte holds the number.
-abbrev pub listed : Message → List ℕ
-listed m = m .seq ∷ m .code ∷ (length (m .content) % 256) ∷ m .content
-
-abbrev pub listing : List Message → List ℕ
-listing [] = []
-listing (m ∷ ms) = listed m ++ listing ms
 
 -- DECISIONS 32: what is told of it: the books at the end, and in two lent buffers, as far as they reach, all that was given back and the commands carried out
 pub record Told : Type 0 where

@@ -50,28 +50,30 @@ use Rattle.sheet.proofs.Line as T
 use Rattle.sheet.proofs.Line.Laws as T′
 use Rattle.machine.proofs.Device as D
 use Rattle.machine.proofs.Device.Laws as D′
-use Rattle.recorder.specs.Running.{heardThrough, startOf, handedBack, partHeard}
-use Rattle.recorder.specs.declared.Run.{Run}
+use Rattle.tape.specs.Noting.{startOf}
+use Rattle.runs.specs.Running.{heardThrough}
+use Rattle.recorder.specs.Parts.{handedBack, partHeard}
+use Rattle.tape.specs.declared.Run.{Run}
 use Rattle.device.proofs.Locals.{partsIn}
 use Rattle.device.specs.declared.Kept.{Kept}
 use Rattle.device.proofs.Kept as K
 use Rattle.device.proofs.Kept.Laws as K′
-use Rattle.recorder.proofs.Run as R
-use Rattle.recorder.proofs.Run.Laws as R′
+use Rattle.tape.proofs.Run as R
+use Rattle.tape.proofs.Run.Laws as R′
 use Rattle.recorder.proofs.Part as P
 use Rattle.recorder.proofs.Part.Laws as P′
-use Rattle.recorder.proofs.Locals.{word, part, lines-part}
-use Rattle.recorder.proofs.Runs.{Apart, apart}
+use Rattle.runs.proofs.Locals.{word, part, lines-part}
+use Rattle.runs.proofs.Runs.{Apart, apart}
 use Rattle.recorder.proofs.Sheets.{Rows, avals, aval, aty, room, lies, stands}
 use Rattle.recorder.proofs.Keeping.{Opened, opened, kept-is, partWith, part-val, part-is, handed}
-use Rattle.recorder.proofs.start as start
-use Rattle.recorder.proofs.start.Symbol as start-def
-use Rattle.recorder.proofs.start.Symbol.{name as #start}
-use Rattle.recorder.proofs.start.Met as start-thm
-use Rattle.recorder.proofs.hear_run as hear-run
-use Rattle.recorder.proofs.hear_run.Symbol as hear-run-def
-use Rattle.recorder.proofs.hear_run.Symbol.{name as #hear-run}
-use Rattle.recorder.proofs.hear_run.Met as hear-run-thm
+use Rattle.tape.proofs.start as start
+use Rattle.tape.proofs.start.Symbol as start-def
+use Rattle.tape.proofs.start.Symbol.{name as #start}
+use Rattle.tape.proofs.start.Met as start-thm
+use Rattle.runs.proofs.hear_run as hear-run
+use Rattle.runs.proofs.hear_run.Symbol as hear-run-def
+use Rattle.runs.proofs.hear_run.Symbol.{name as #hear-run}
+use Rattle.runs.proofs.hear_run.Met as hear-run-thm
 use Rattle.recorder.proofs.hear_part.Key.{name as #hear-part}
 use Rattle.recorder.proofs.hear_part as hear-part
 use Rattle.recorder.proofs.hear_part.Statement as stated
@@ -281,5 +283,5 @@ hear-part-spec 𝓤 H 𝓜 𝓖 𝓡 =
     entered 𝓤 H (tripleOf 𝓤 H (𝓖 .A) hear-part.signature (hear-part.spec 𝓤 H (𝓖 .A) (𝓜 .mem) (𝓡 .run)))
     (tables 𝓤 H 𝓜 𝓡 code.env .C) (tables 𝓤 H 𝓜 𝓡 code.env .Λ) #hear-part code.function (code.unfolded 𝓤 H 𝓜 𝓡)
     (hear-part-meets 𝓤 H (𝓖 .A) (givenOf 𝓤 H 𝓜 𝓖) (𝓜 .mem) (𝓡 .run) (tablesOf 𝓤 H 𝓜 (tables 𝓤 H 𝓜 𝓡 code.env))
-    (cited 𝓤 H (Start 𝓤 H (𝓖 .A) (𝓜 .mem) (𝓡 .run)) 𝓜 𝓡 code.env #start start-def.routine code.calls-recorder·start (start-thm.met 𝓤 H 𝓜 𝓖 𝓡))
-    (cited 𝓤 H (Hear 𝓤 H (𝓖 .A) (𝓜 .mem) (𝓡 .run)) 𝓜 𝓡 code.env #hear-run hear-run-def.routine code.calls-recorder·hear-run (hear-run-thm.met 𝓤 H 𝓜 𝓖 𝓡)))
+    (cited 𝓤 H (Start 𝓤 H (𝓖 .A) (𝓜 .mem) (𝓡 .run)) 𝓜 𝓡 code.env #start start-def.routine code.calls-tape·start (start-thm.met 𝓤 H 𝓜 𝓖 𝓡))
+    (cited 𝓤 H (Hear 𝓤 H (𝓖 .A) (𝓜 .mem) (𝓡 .run)) 𝓜 𝓡 code.env #hear-run hear-run-def.routine code.calls-runs·hear-run (hear-run-thm.met 𝓤 H 𝓜 𝓖 𝓡)))

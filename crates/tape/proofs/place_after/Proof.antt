@@ -3,9 +3,9 @@ use mathlib.Core.Bool.{Bool, cond}
 use Prim.Native.Nat.{ℕ, _+_, _-_, _≤_, _<_}
 use native.Mathlib.Omega.{arith}
 use borrow.Author.Tests.{le-leb, lt-leb}
-use Rattle.recorder.specs.Running.{placeAfter}
-use Rattle.recorder.proofs.place_after.Statement.{statement}
-use Rattle.recorder.proofs.place_after.Tie as tie
+use Rattle.tape.specs.Noting.{placeAfter}
+use Rattle.tape.proofs.place_after.Statement.{statement}
+use Rattle.tape.proofs.place_after.Tie as tie
 
 module _ (place taken total : ℕ) where
   abbrev by : Bool → ℕ

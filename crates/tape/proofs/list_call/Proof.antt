@@ -1,11 +1,11 @@
 use mathlib.Core.Path.{ap}
 use denote.Ref.{now}
 use Rattle.machine.specs.Hearing.{carriedBy}
-use Rattle.recorder.specs.Recording.{listing}
-use Rattle.recorder.proofs.Listening.{list-none, list-order}
+use Rattle.tape.specs.Noting.{listing}
+use Rattle.tape.proofs.Appending.{list-none, list-order}
 use borrow.Author.Needs.{needs}
-use Rattle.recorder.proofs.list_call.Statement.{statement}
-use Rattle.recorder.proofs.list_call.Tie as tie
+use Rattle.tape.proofs.list_call.Statement.{statement}
+use Rattle.tape.proofs.list_call.Tie as tie
 
 returns : tie.Need-returns
 returns c =

@@ -58,28 +58,29 @@ use Rattle.machine.proofs.Device as D
 use Rattle.machine.proofs.Device.Laws as D′
 use Rattle.machine.proofs.Hearing as E
 use Rattle.machine.proofs.Hearing.Laws as E′
-use Rattle.recorder.specs.Running.{Running, notedDown, machineIn, lentIn, oneCall, callsLeft, heardThrough}
-use Rattle.recorder.specs.declared.Run.{Run}
-use Rattle.recorder.proofs.Run as R
-use Rattle.recorder.proofs.Run.Laws as R′
-use Rattle.recorder.proofs.Locals.{word, frame-ty, last-ty, bytes-ty, sheet-ty, array-ref, byte-ref, part, line-ref, lines-part}
-use Rattle.recorder.proofs.Runs.{Apart, apart}
-use Rattle.recorder.proofs.SharedRef.{SharingRef, shares-ref, ref-back}
+use Rattle.tape.specs.Noting.{notedDown}
+use Rattle.runs.specs.Running.{Running, machineIn, lentIn, oneCall, callsLeft, heardThrough}
+use Rattle.tape.specs.declared.Run.{Run}
+use Rattle.tape.proofs.Run as R
+use Rattle.tape.proofs.Run.Laws as R′
+use Rattle.runs.proofs.Locals.{word, frame-ty, last-ty, bytes-ty, sheet-ty, array-ref, byte-ref, part, line-ref, lines-part}
+use Rattle.runs.proofs.Runs.{Apart, apart}
+use Rattle.runs.proofs.SharedRef.{SharingRef, shares-ref, ref-back}
 use Rattle.device.proofs.Locals.{partsIn}
 use Rattle.device.proofs.hear as hear
 use Rattle.device.proofs.hear.Symbol as hear-def
 use Rattle.device.proofs.hear.Symbol.{name as #hear}
 use Rattle.device.proofs.hear.Met as hear-thm
-use Rattle.recorder.proofs.Calling.{call-is, still, fewer, all-heard}
-use Rattle.recorder.proofs.note_down as note-down
-use Rattle.recorder.proofs.note_down.Symbol as note-down-def
-use Rattle.recorder.proofs.note_down.Symbol.{name as #note-down}
-use Rattle.recorder.proofs.note_down.Met as note-down-thm
-use Rattle.recorder.proofs.hear_run.Key.{name as #hear-run}
-use Rattle.recorder.proofs.hear_run as hear-run
-use Rattle.recorder.proofs.hear_run.Statement as stated
-use Rattle.recorder.proofs.hear_run.Code as code
-use Rattle.recorder.proofs.hear_run.Code.Mir as body
+use Rattle.runs.proofs.Calling.{call-is, still, fewer, all-heard}
+use Rattle.tape.proofs.note_down as note-down
+use Rattle.tape.proofs.note_down.Symbol as note-down-def
+use Rattle.tape.proofs.note_down.Symbol.{name as #note-down}
+use Rattle.tape.proofs.note_down.Met as note-down-thm
+use Rattle.runs.proofs.hear_run.Key.{name as #hear-run}
+use Rattle.runs.proofs.hear_run as hear-run
+use Rattle.runs.proofs.hear_run.Statement as stated
+use Rattle.runs.proofs.hear_run.Code as code
+use Rattle.runs.proofs.hear_run.Code.Mir as body
 
 abbrev stayed : Stays (hear-run.ended .signature .params) (hear-run.ended .kept)
 stayed = (
@@ -377,4 +378,4 @@ hear-run-spec 𝓤 H 𝓜 𝓖 𝓡 =
     (tables 𝓤 H 𝓜 𝓡 code.env .C) (tables 𝓤 H 𝓜 𝓡 code.env .Λ) #hear-run code.function (code.unfolded 𝓤 H 𝓜 𝓡)
     (hear-run-meets 𝓤 H (𝓖 .A) (givenOf 𝓤 H 𝓜 𝓖) (𝓜 .mem) (𝓡 .run) (tablesOf 𝓤 H 𝓜 (tables 𝓤 H 𝓜 𝓡 code.env))
     (cited 𝓤 H (Hear 𝓤 H (𝓖 .A) (𝓜 .mem) (𝓡 .run)) 𝓜 𝓡 code.env #hear hear-def.routine code.calls-device·hear (hear-thm.met 𝓤 H 𝓜 𝓖 𝓡))
-    (cited 𝓤 H (Note 𝓤 H (𝓖 .A) (𝓜 .mem) (𝓡 .run)) 𝓜 𝓡 code.env #note-down note-down-def.routine code.calls-recorder·note-down (note-down-thm.met 𝓤 H 𝓜 𝓖 𝓡)))
+    (cited 𝓤 H (Note 𝓤 H (𝓖 .A) (𝓜 .mem) (𝓡 .run)) 𝓜 𝓡 code.env #note-down note-down-def.routine code.calls-tape·note-down (note-down-thm.met 𝓤 H 𝓜 𝓖 𝓡)))

@@ -10,12 +10,11 @@ use denote.Ref.{now}
 use Rattle.machine.specs.Hearing.{carriedBy}
 use Rattle.machine.specs.declared.Hearing.{Hearing}
 use Rattle.machine.proofs.Working.{take-min}
-use Rattle.recorder.specs.Recording.{listing}
-use Rattle.recorder.specs.Running.{NotedDown, placeAfter, notedDown}
-use Rattle.recorder.specs.declared.Run.{Run}
+use Rattle.tape.specs.Noting.{listing, NotedDown, placeAfter, notedDown}
+use Rattle.tape.specs.declared.Run.{Run}
 use borrow.Author.Needs.{needs}
-use Rattle.recorder.proofs.note_down.Statement.{statement}
-use Rattle.recorder.proofs.note_down.Tie as tie
+use Rattle.tape.proofs.note_down.Statement.{statement}
+use Rattle.tape.proofs.note_down.Tie as tie
 
 module _ (run : Run) (h : Hearing) (frame buffer : List ℕ) (total : ℕ) (out orders : List ℕ) where
   abbrev noted : (place written listed : ℕ) → (out orders : List ℕ) → NotedDown

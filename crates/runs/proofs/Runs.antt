@@ -9,9 +9,9 @@ use denote.Steps.{only}
 use denote.Struct.Laws as LL
 use Rattle.machine.proofs.Device as D
 use Rattle.machine.proofs.Device.Laws as D′
-use Rattle.recorder.specs.declared.Run.{Run}
-use Rattle.recorder.proofs.Run as R
-use Rattle.recorder.proofs.Run.Laws as R′
+use Rattle.tape.specs.declared.Run.{Run}
+use Rattle.tape.proofs.Run as R
+use Rattle.tape.proofs.Run.Laws as R′
 
 pub record Apart (g : Run) (v : Val) : Type 0 where
   pub dv : Val

@@ -11,7 +11,8 @@ use Rattle.basics.proofs.Tests.{both}
 use Rattle.sheet.specs.declared.Line.{Line}
 use Rattle.machine.specs.Hearing.{PartHeard, partOf, afterPart}
 use Rattle.machine.specs.declared.Hearing.{Hearing}
-use Rattle.recorder.specs.Running.{NotedDown, placeAfter, notedDown, Running, machineIn, lentIn, behindCall, oneCall, callsLeft, running, heardThrough}
+use Rattle.tape.specs.Noting.{NotedDown, placeAfter, notedDown}
+use Rattle.runs.specs.Running.{Running, machineIn, lentIn, behindCall, oneCall, callsLeft, running, heardThrough}
 
 module _ (bytes : List ℕ) where
   abbrev total : ℕ

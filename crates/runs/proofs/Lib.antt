@@ -1,0 +1,4 @@
+pub mod Calling
+pub mod SharedRef
+pub mod Locals
+pub mod Runs
