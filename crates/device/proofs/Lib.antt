@@ -1,4 +1,3 @@
 pub mod Locals
 pub mod Asked
 pub mod Parts
-pub mod Lending

@@ -1,7 +1,7 @@
 // A device told of a list of events, and what it gives back on each. An event is 42h and a byte: all that it asks for is lent; or 53h, k, a
 // length of two bytes and a byte: one thing is lent at this length, of k 0 the buffer in bytes, of k 1 the sheet in lines.
-use device::Kept;
-use device::KeptHearing;
+use kept::Kept;
+use kept::KeptHearing;
 use libc::STDERR_FILENO;
 use libc::STDIN_FILENO;
 use libc::STDOUT_FILENO;
@@ -35,7 +35,7 @@ fn main() {
     let mut last = [0u8; ANSWER_ROOM];
     let mut event = [0u8; EVENT_ROOM];
     let mut buf = io::large_buffer();
-    let mut kept = device::fresh_kept();
+    let mut kept = kept::fresh_kept();
     let mut events: u64 = 0;
     while events < 0xFFFFFFFFFFFFFFFF {
         let n = next_event(&mut event);
@@ -183,7 +183,7 @@ fn lend_short(
 {
     let bytes = [byte];
     let device = kept.device;
-    let short = device::hear_short(device, frame, last, &mut buf[0..room], &bytes, 0);
+    let short = kept::hear_short(device, frame, last, &mut buf[0..room], &bytes, 0);
     let given = short.given;
     Told {
         kept,
@@ -206,7 +206,7 @@ fn lend_whole(
     let bytes = [byte];
     let device = kept.device;
     let sheet = kept.sheet;
-    let heard = device::hear_kept(device, frame, last, &mut buf[0..room], sheet, &bytes, 0);
+    let heard = kept::hear_kept(device, frame, last, &mut buf[0..room], sheet, &bytes, 0);
     let hearing = heard.hearing;
     let given = hearing.given;
     Told {

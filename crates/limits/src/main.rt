@@ -1,5 +1,5 @@
 // As much as a receipt and a frame hold, and one more (PROTOCOL 8.1, 8.2).
-use device::Kept;
+use kept::Kept;
 use libc::STDOUT_FILENO;
 use reader::FRAME_ROOM;
 use wire::ANSWER_ROOM;
@@ -26,7 +26,7 @@ fn fill(sale: &[u8]) {
     let mut frame = [0u8; FRAME_ROOM];
     let mut last = [0u8; ANSWER_ROOM];
     let mut sent = send(
-        device::fresh_kept(),
+        kept::fresh_kept(),
         &mut frame,
         &mut last,
         0x20,
@@ -79,7 +79,7 @@ fn send(
     }
     let device = kept.device;
     let sheet = kept.sheet;
-    let heard = device::hear_kept(device, frame, last, &mut buf, sheet, &command[0..n], 0);
+    let heard = kept::hear_kept(device, frame, last, &mut buf, sheet, &command[0..n], 0);
     let hearing = heard.hearing;
     let given = hearing.given;
     let next = given.device;

@@ -1,6 +1,6 @@
 // A fresh device on a line: the raw bytes that it receives on standard input, all that it gives back on standard output, as soon as it
 // is there.
-use device::Kept;
+use kept::Kept;
 use libc::STDIN_FILENO;
 use libc::STDOUT_FILENO;
 use reader::FRAME_ROOM;
@@ -25,7 +25,7 @@ fn main() {
     let mut last = [0u8; ANSWER_ROOM];
     let mut out = out_room();
     let mut bytes = part_room();
-    let mut kept = device::fresh_kept();
+    let mut kept = kept::fresh_kept();
     let mut turns = 9223372036854775807u64;
     while turns > 0 {
         let n = some(&mut bytes);

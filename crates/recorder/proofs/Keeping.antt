@@ -20,9 +20,9 @@ use Rattle.runs.specs.Running.{Running, heardThrough}
 use Rattle.recorder.specs.Parts.{handedBack, partHeard}
 use Rattle.tape.specs.declared.Run.{Run}
 use Rattle.recorder.specs.declared.Part.{Part}
-use Rattle.device.specs.declared.Kept.{Kept}
-use Rattle.device.proofs.Kept as K
-use Rattle.device.proofs.Kept.Laws as K′
+use Rattle.kept.specs.declared.Kept.{Kept}
+use Rattle.kept.proofs.Kept as K
+use Rattle.kept.proofs.Kept.Laws as K′
 use Rattle.recorder.proofs.Part as P
 use Rattle.recorder.proofs.Part.Laws as P′
 use Rattle.recorder.proofs.Sheets.{Rows, avals, aval, F, array-into, out-of-field, long}

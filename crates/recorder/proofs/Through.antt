@@ -18,7 +18,7 @@ use Rattle.carrying.specs.Carrying.{carry}
 use Rattle.carrying.proofs.Eights.{Eights}
 use Rattle.sheet.specs.Sheet.{blank}
 use Rattle.sheet.specs.declared.Line.{Line}
-use Rattle.device.specs.declared.Kept.{Kept}
+use Rattle.kept.specs.declared.Kept.{Kept}
 use Rattle.machine.specs.Device.{freshFields, enough, stateOf}
 use Rattle.machine.specs.Hearing.{PartHeard, hearing, afterPart, carriedBy}
 use Rattle.machine.proofs.Parts.{behind, part-is, part-long}

@@ -4,7 +4,7 @@ use mathlib.Core.List.{List}
 use lib.ListN.{length}
 use Rattle.tape.specs.Noting.{startOf}
 use Rattle.runs.specs.Running.{Running, heardThrough}
-use Rattle.device.specs.declared.Kept.{Kept}
+use Rattle.kept.specs.declared.Kept.{Kept}
 use Rattle.recorder.specs.declared.Part.{Part}
 
 -- a part heard with the sheet held by value: everything behind it

@@ -1,6 +1,6 @@
 // A recording: all the bytes that a fresh device heard (PROTOCOL 1.1); and any part of the line's bytes, heard with the sheet by value.
 use books::Books;
-use device::Kept;
+use kept::Kept;
 use reader::FRAME_ROOM;
 use runs::hear_run;
 use tape::start;
@@ -58,7 +58,7 @@ pub fn hear_all(bytes: &[u8], out: &mut [u8], orders: &mut [u8]) -> Recorded
     let mut frame = [0u8; FRAME_ROOM];
     let mut last = [0u8; ANSWER_ROOM];
     let mut buf = [0u8; ANSWER_ROOM];
-    let kept = device::fresh_kept();
+    let kept = kept::fresh_kept();
     let part = hear_part(kept, &mut frame, &mut last, &mut buf, bytes, out, orders);
     let left = part.kept;
     let device = left.device;

@@ -55,9 +55,9 @@ use Rattle.runs.specs.Running.{heardThrough}
 use Rattle.recorder.specs.Parts.{handedBack, partHeard}
 use Rattle.tape.specs.declared.Run.{Run}
 use Rattle.device.proofs.Locals.{partsIn}
-use Rattle.device.specs.declared.Kept.{Kept}
-use Rattle.device.proofs.Kept as K
-use Rattle.device.proofs.Kept.Laws as K′
+use Rattle.kept.specs.declared.Kept.{Kept}
+use Rattle.kept.proofs.Kept as K
+use Rattle.kept.proofs.Kept.Laws as K′
 use Rattle.tape.proofs.Run as R
 use Rattle.tape.proofs.Run.Laws as R′
 use Rattle.recorder.proofs.Part as P

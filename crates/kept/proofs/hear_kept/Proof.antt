@@ -55,19 +55,19 @@ use Rattle.machine.proofs.Device as D
 use Rattle.machine.proofs.Device.Laws as D′
 use Rattle.machine.proofs.Hearing as N
 use Rattle.machine.proofs.Hearing.Laws as N′
-use Rattle.device.specs.declared.KeptHearing.{KeptHearing}
-use Rattle.device.proofs.KeptHearing as K
-use Rattle.device.proofs.KeptHearing.Laws as K′
-use Rattle.device.proofs.Lending.{Lines, avals, aval, lies, holds, Hear, lent, Lent, to-hear, goes-hear}
+use Rattle.kept.specs.declared.KeptHearing.{KeptHearing}
+use Rattle.kept.proofs.KeptHearing as K
+use Rattle.kept.proofs.KeptHearing.Laws as K′
+use Rattle.kept.proofs.Lending.{Lines, avals, aval, lies, holds, Hear, lent, Lent, to-hear, goes-hear}
 use Rattle.device.proofs.Locals.{typeOf}
 use Rattle.device.proofs.hear as hear
 use Rattle.device.proofs.hear.Symbol as hear-def
 use Rattle.device.proofs.hear.Symbol.{name as #device·hear}
 use Rattle.device.proofs.hear.Met as hear-thm
-use Rattle.device.proofs.hear_kept.Key.{name as #device·hear-kept}
-use Rattle.device.proofs.hear_kept as hear-kept
-use Rattle.device.proofs.hear_kept.Statement as stated
-use Rattle.device.proofs.hear_kept.Code as code
+use Rattle.kept.proofs.hear_kept.Key.{name as #kept·hear-kept}
+use Rattle.kept.proofs.hear_kept as hear-kept
+use Rattle.kept.proofs.hear_kept.Statement as stated
+use Rattle.kept.proofs.hear_kept.Code as code
 
 abbrev SlotA : Slot 4
 SlotA = ArrayOf (plain (λ _. L.the-row)) (λ _. tt) 512
@@ -218,6 +218,6 @@ pub hear-kept-spec : {M : Type 1} → stated.statement M
 unfolding code.routine tablesOf
 hear-kept-spec 𝓤 H 𝓜 𝓖 𝓡 =
     entered 𝓤 H (tripleOf 𝓤 H (𝓖 .A) hear-kept.signature (hear-kept.spec 𝓤 H (𝓖 .A) (𝓜 .mem) (𝓡 .run)))
-    (tables 𝓤 H 𝓜 𝓡 code.env .C) (tables 𝓤 H 𝓜 𝓡 code.env .Λ) #device·hear-kept code.function (code.unfolded 𝓤 H 𝓜 𝓡)
+    (tables 𝓤 H 𝓜 𝓡 code.env .C) (tables 𝓤 H 𝓜 𝓡 code.env .Λ) #kept·hear-kept code.function (code.unfolded 𝓤 H 𝓜 𝓡)
     (hear-kept-meets 𝓤 H (𝓖 .A) (givenOf 𝓤 H 𝓜 𝓖) (𝓜 .mem) (𝓡 .run) (tablesOf 𝓤 H 𝓜 (tables 𝓤 H 𝓜 𝓡 code.env))
     (cited 𝓤 H (Hear 𝓤 H (𝓖 .A) (𝓜 .mem) (𝓡 .run)) 𝓜 𝓡 code.env #device·hear hear-def.routine code.calls-device·hear (hear-thm.met 𝓤 H 𝓜 𝓖 𝓡)))

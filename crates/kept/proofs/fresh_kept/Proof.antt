@@ -2,8 +2,8 @@ use mathlib.Core.Path.{ap, _∙_}
 use lib.ListN.{replicate}
 use Rattle.machine.specs.Device.{freshFields}
 use borrow.Author.Needs.{needs}
-use Rattle.device.proofs.fresh_kept.Statement.{statement}
-use Rattle.device.proofs.fresh_kept.Tie as tie
+use Rattle.kept.proofs.fresh_kept.Statement.{statement}
+use Rattle.kept.proofs.fresh_kept.Tie as tie
 
 returns : tie.Need-returns
 returns c =
