@@ -8,11 +8,9 @@ use sheet::MOST_LINES;
 use wire::ANSWER_ROOM;
 ghost use mathlib.Core.Path.{_≡_};
 ghost use Prim.Native.Nat.{_≤_};
-ghost use lib.ListN.{drop, replicate};
-ghost use Rattle.line.specs.declared.Call.the-variants.{Quiet};
-ghost use Rattle.sheet.specs.Sheet.{blank};
-ghost use Rattle.machine.specs.Device.{freshFields};
+ghost use lib.ListN.{drop};
 ghost use Rattle.machine.specs.Hearing.{partOf, afterPart};
+ghost use Rattle.kept.specs.ByValue.{freshKept, notHeard};
 
 // A device and the 512 records of its sheet.
 pub struct Kept {
@@ -28,7 +26,7 @@ pub struct KeptHearing {
 
 // A fresh device, with a sheet on which nothing stands.
 pub fn fresh_kept() -> Kept
-    ensures { λ r. ⌜ r ≡ record { device = freshFields; sheet = replicate 512 blank } ⌝ }
+    ensures { λ r. ⌜ r ≡ freshKept ⌝ }
 {
     let device = machine::fresh();
     let line = sheet::blank_line();
@@ -64,7 +62,7 @@ pub fn hear_short(
     bytes: &[u8],
     from: usize,
 ) -> Hearing
-    ensures { λ r. ⌜ (r ≡ record { given = record { device = device; number = 7; count = 0 }; call = Quiet; taken = 0 }) × ((now (frame .exit) ≡ now (frame .entry)) × ((now (last .exit) ≡ now (last .entry)) × (now (buf .exit) ≡ now (buf .entry)))) ⌝ }
+    ensures { λ r. ⌜ (r ≡ notHeard device) × ((now (frame .exit) ≡ now (frame .entry)) × ((now (last .exit) ≡ now (last .entry)) × (now (buf .exit) ≡ now (buf .entry)))) ⌝ }
 {
     let line = sheet::blank_line();
     let mut s = [line; 1];
