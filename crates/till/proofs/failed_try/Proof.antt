@@ -11,7 +11,7 @@ returns c =
     let test = c .before .before .before .before .before .before in
     let s = test .before .before .before in
     let a = s .args in
-    let all = says-again (a .next) (a .a) (now (a .frame)) (test .if1 .taken) (s .pre) (omega arith) _ (c .before .listen .ensures) (now (a .buf)) _ (c .before .before .before .before .put-part .ensures) in
+    let all = says-again (a .next) (a .a) (now (a .frame)) (test .if1 .taken) (s .pre) (omega (arith, s .good)) _ (c .before .listen .ensures) (now (a .buf)) _ (c .before .before .before .before .put-part .ensures) in
     (c .held .ensures ∙ all .0, all .1)
 
 returns-2 : tie.Need-returns-2
