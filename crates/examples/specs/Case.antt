@@ -1,9 +1,9 @@
 -- What a case is, and when it holds: by the definitions that the code is proved to meet.
-use Prim.Native.Char.{code}
 use Prim.Native.Nat.{ℕ, _-_}
 use Prim.Native.String as string
 use mathlib.Core.List.{List, [], _∷_, _++_, map}
 use lib.ListN.{length, set, replicate}
+use Rattle.letters.specs.Letters.{bytes}
 use Rattle.wire.specs.Frame.{Message, commandOf, answerOf, frame}
 use Rattle.wire.specs.declared.Way.the-variants.{ToDevice, ToTill}
 use Rattle.sheet.specs.Sheet.{blank}
@@ -11,11 +11,6 @@ use Rattle.sheet.specs.declared.Line.{Line}
 use Rattle.store.specs.Store.{Store, freshStore}
 use Rattle.line.specs.Turns.{State, switchedOn, session}
 use Rattle.carrying.specs.Carrying.{carry}
-
--- a text as bytes, one for each character; \t is Tab
-abbrev pub bytes : string.String → List ℕ
-bytes string.[] = []
-bytes (string._∷_ c s) = code c ∷ bytes s
 
 -- some bytes that the device hears, and all that it gives back on them
 pub record Exchange : Type 0 where

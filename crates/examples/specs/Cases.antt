@@ -5,7 +5,8 @@ use mathlib.Core.List.{List, [], _∷_, _++_}
 use lib.ListN.{set}
 use Rattle.wire.specs.Frame.{commandOf, answerOf, frame}
 use Rattle.wire.specs.declared.Way.the-variants.{ToDevice, ToTill}
-use Rattle.examples.specs.Case.{Case, built, talk, Exchange, asks, bytes, endsIn, marked}
+use Rattle.letters.specs.Letters.{bytes}
+use Rattle.examples.specs.Case.{Case, built, talk, Exchange, asks, endsIn, marked}
 
 -- PROTOCOL 1.1: the single byte 15h
 abbrev pub NAK : List ℕ
