@@ -1,2 +1,5 @@
 pub mod Letters
 pub mod Words
+pub mod Names
+pub mod Status
+pub mod Fields

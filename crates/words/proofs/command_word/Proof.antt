@@ -47,8 +47,10 @@ returns-14 c = rw (c .before .before .match .keys14) (c .words-of14 .ensures)
 
 returns-15 : tie.Need-returns-15
 returns-15 c =
-    let n = c .before .before .before .args .code in
-    rw (ne-eqb n 38 (c .before .before .match .rest .0 .0 .0 .0 .0 .0 .0 .0 .0 .0 .0 .0 .0 .1), ne-eqb n 39 (c .before .before .match .rest .0 .0 .0 .0 .0 .0 .0 .0 .0 .0 .0 .0 .1), ne-eqb n 42 (c .before .before .match .rest .0 .0 .0 .0 .0 .0 .0 .0 .0 .0 .0 .1), ne-eqb n 48 (c .before .before .match .rest .0 .0 .0 .0 .0 .0 .0 .0 .0 .0 .1), ne-eqb n 49 (c .before .before .match .rest .0 .0 .0 .0 .0 .0 .0 .0 .0 .1), ne-eqb n 51 (c .before .before .match .rest .0 .0 .0 .0 .0 .0 .0 .0 .1), ne-eqb n 53 (c .before .before .match .rest .0 .0 .0 .0 .0 .0 .0 .1), ne-eqb n 56 (c .before .before .match .rest .0 .0 .0 .0 .0 .0 .1), ne-eqb n 60 (c .before .before .match .rest .0 .0 .0 .0 .0 .1), ne-eqb n 65 (c .before .before .match .rest .0 .0 .0 .0 .1), ne-eqb n 69 (c .before .before .match .rest .0 .0 .0 .1), ne-eqb n 70 (c .before .before .match .rest .0 .0 .1), ne-eqb n 74 (c .before .before .match .rest .0 .1), ne-eqb n 97 (c .before .before .match .rest .1)) (c .words-of15 .ensures)
+    let k = c .before .before in
+    let m = k .match .rest in
+    let n = k .before .args .code in
+    rw (ne-eqb n 38 (m .0 .0 .0 .0 .0 .0 .0 .0 .0 .0 .0 .0 .0 .1), ne-eqb n 39 (m .0 .0 .0 .0 .0 .0 .0 .0 .0 .0 .0 .0 .1), ne-eqb n 42 (m .0 .0 .0 .0 .0 .0 .0 .0 .0 .0 .0 .1), ne-eqb n 48 (m .0 .0 .0 .0 .0 .0 .0 .0 .0 .0 .1), ne-eqb n 49 (m .0 .0 .0 .0 .0 .0 .0 .0 .0 .1), ne-eqb n 51 (m .0 .0 .0 .0 .0 .0 .0 .0 .1), ne-eqb n 53 (m .0 .0 .0 .0 .0 .0 .0 .1), ne-eqb n 56 (m .0 .0 .0 .0 .0 .0 .1), ne-eqb n 60 (m .0 .0 .0 .0 .0 .1), ne-eqb n 65 (m .0 .0 .0 .0 .1), ne-eqb n 69 (m .0 .0 .0 .1), ne-eqb n 70 (m .0 .0 .1), ne-eqb n 74 (m .0 .1), ne-eqb n 97 (m .1)) (c .words-of15 .ensures)
 
 pub command-word-spec : {M : Type 1} → statement M
 command-word-spec =

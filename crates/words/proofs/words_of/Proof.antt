@@ -1,4 +1,3 @@
-use mathlib.Core.Path.{ap}
 use borrow.Author.Needs.{needs}
 use Rattle.words.proofs.words_of.Statement.{statement}
 use Rattle.words.proofs.words_of.Tie as tie
