@@ -1,0 +1,2 @@
+pub mod Numbered
+mod Asking
