@@ -5,7 +5,6 @@ use kept::KeptHearing;
 use libc::STDERR_FILENO;
 use libc::STDIN_FILENO;
 use libc::STDOUT_FILENO;
-use machine::Given;
 use reader::FRAME_ROOM;
 use sheet::MOST_LINES;
 use wire::ANSWER_ROOM;
@@ -187,7 +186,7 @@ fn lend_short(
     let given = short.given;
     Told {
         kept,
-        written: say(given, &*buf),
+        written: say(given.number, given.count, &*buf),
     }
 }
 
@@ -211,7 +210,7 @@ fn lend_whole(
     let given = hearing.given;
     Told {
         kept: behind(heard),
-        written: say(given, &*buf),
+        written: say(given.number, given.count, &*buf),
     }
 }
 
@@ -224,9 +223,8 @@ fn behind(heard: KeptHearing) -> Kept {
 }
 
 // The reply number, the count, as many bytes; then 00h, for no text is shown.
-fn say(given: Given, buf: &[u8]) -> bool {
-    let count = given.count;
-    let head = [(given.number % 256) as u8, (count % 256) as u8];
+fn say(number: u64, count: usize, buf: &[u8]) -> bool {
+    let head = [(number % 256) as u8, (count % 256) as u8];
     if !io::write_all(STDOUT_FILENO, &head) {
         return false;
     }

@@ -123,7 +123,7 @@ fn record(s: &[u8]) -> usize {
         return 0;
     }
     let code = s[0];
-    let n = s[1] as usize;
+    let n = wide(s[1]);
     if s.len() - 2 < n {
         return 0;
     }
@@ -131,6 +131,10 @@ fn record(s: &[u8]) -> usize {
     let read = command::parse(code, &s[2..end]);
     say(code, read);
     end
+}
+
+fn wide(b: u8) -> usize {
+    b as usize
 }
 
 fn say(code: u8, read: Parsed) {

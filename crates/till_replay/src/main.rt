@@ -81,7 +81,7 @@ fn next_event(event: &mut [u8]) -> usize
     if kind != b'C' {
         return 1;
     }
-    let end = event[2] as usize + 4;
+    let end = wide(event[2]) + 4;
     if !more(event, 3, end) {
         return 1;
     }
@@ -107,6 +107,12 @@ fn more(event: &mut [u8], from: usize, end: usize) -> bool
     io::read_full(STDIN_FILENO, &mut event[from..end]) == end - from
 }
 
+fn wide(b: u8) -> usize
+    ensures { λ r. ⌜ r < 256 ⌝ }
+{
+    b as usize
+}
+
 // One event, its first n bytes. What is lent is the front of the buffer.
 fn happen(
     till: Till,
@@ -120,7 +126,7 @@ fn happen(
     requires { ⌜ n < 260 ⌝ }
     requires { ⌜ length (now buf) ≡ 256 ⌝ }
 {
-    let end = event[0] as usize;
+    let end = wide(event[0]);
     let lent = &mut buf[0..end];
     if n < 3 {
         return till::timeout(till, &*frame, lent);
