@@ -1,5 +1,6 @@
 pub mod Letters
 pub mod Words
+pub mod Rows
 pub mod Names
-pub mod Status
 pub mod Fields
+pub mod Private
