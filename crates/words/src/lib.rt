@@ -135,7 +135,7 @@ fn reason_place(reason: Reason) -> usize
     }
 }
 
-// PROTOCOL 3.1: what a status bit says that is set, both counted from 0; nothing where it is always 0. Eight rows a byte.
+// PROTOCOL 3.1: what a status bit says that is set, both counted from 0; nothing where it is always 0. A byte to a line.
 pub fn status_word(byte: usize, bit: usize) -> Words
     ensures { λ r. ⌜ r ≡ wordsOf (statusWord byte bit) ⌝ }
 {
@@ -146,54 +146,12 @@ pub fn status_word(byte: usize, bit: usize) -> Words
         return words_of(b"");
     }
     row(
-        b"this command: syntax\n\
-        this command: unknown\n\
-        \n\
-        \n\
-        \n\
-        this command was refused\n\
-        \n\
-        always\n\
-        this command: overflow of a sum\n\
-        this command: not permitted, or overflow\n\
-        \n\
-        \n\
-        \n\
-        \n\
-        \n\
-        always\n\
-        \n\
-        \n\
-        \n\
-        a fiscal receipt is open\n\
-        \n\
-        a non-fiscal receipt is open\n\
-        \n\
-        always\n\
-        \n\
-        \n\
-        \n\
-        \n\
-        \n\
-        \n\
-        \n\
-        always\n\
-        \n\
-        always\n\
-        always\n\
-        at most 50 closings are free\n\
-        no closing is free\n\
-        no closing is free\n\
-        \n\
-        always\n\
-        \n\
-        always\n\
-        \n\
-        always\n\
-        always\n\
-        \n\
-        \n\
-        always\n",
+        b"this command: syntax\nthis command: unknown\n\n\n\nthis command was refused\n\nalways\n\
+        this command: overflow of a sum\nthis command: not permitted, or overflow\n\n\n\n\n\nalways\n\
+        \n\n\na fiscal receipt is open\n\na non-fiscal receipt is open\n\nalways\n\
+        \n\n\n\n\n\n\nalways\n\
+        \nalways\nalways\nat most 50 closings are free\nno closing is free\nno closing is free\n\nalways\n\
+        \nalways\n\nalways\nalways\n\n\nalways\n",
         byte * 8 + bit,
     )
 }
