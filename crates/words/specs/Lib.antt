@@ -1,4 +1,5 @@
 pub mod Words
+pub mod Rows
 pub mod Names
-pub mod Status
 pub mod Fields
+pub mod Private

@@ -1,45 +1,57 @@
--- The words for commands, replies and reasons.
-use Prim.Native.Nat.{ℕ}
-use mathlib.Core.Bool.{cond}
-use mathlib.Core.List.{List}
-use lib.Dec.{eqb}
+-- The words for commands, replies, reasons and status bits.
+use Prim.Native.Nat.{ℕ, _+_, _*_}
+use mathlib.Core.Bool.{cond, _&&_}
+use mathlib.Core.List.{List, [], _∷_}
+use lib.Dec.{ltb}
+use lib.ListN.{getD}
+use Rattle.text.specs.Parts.{firstAt}
 use Rattle.reasons.specs.declared.Reason.{Reason}
 use Rattle.reasons.specs.declared.Reason.the-variants.{Done, Syntax, OutOfRange, Unknown, WrongPassword, ReceiptOpen, ManyReceipts, MemoryFull, NoFiscal, PaymentDone, ManyLines, GroupDisabled, OffAboveLine, NoLineBack, OffAboveGroup, PaidInFull, AboveRest, NotPaid, NoText, LittleCash, ManyFiscal, LineOver, FinishedOver, TotalOver, GroupOver, RegisterOver, DayOver, MemoryOver, CashOver, InOver, OutOver}
 use Rattle.letters.specs.Letters.{bytes}
 
--- PROTOCOL 5.1: what a command is called, by its code
-abbrev pub commandWord : ℕ → List ℕ
-commandWord code =
-    cond (eqb code 38) (bytes "open a non-fiscal receipt")
-    (cond (eqb code 39) (bytes "close the non-fiscal receipt")
-    (cond (eqb code 42) (bytes "a line of text")
-    (cond (eqb code 48) (bytes "open a fiscal receipt")
-    (cond (eqb code 49) (bytes "a sale")
-    (cond (eqb code 51) (bytes "subtotal")
-    (cond (eqb code 53) (bytes "total")
-    (cond (eqb code 56) (bytes "close the fiscal receipt")
-    (cond (eqb code 60) (bytes "cancel the fiscal receipt")
-    (cond (eqb code 65) (bytes "sums of the day")
-    (cond (eqb code 69) (bytes "the closing")
-    (cond (eqb code 70) (bytes "the drawer")
-    (cond (eqb code 74) (bytes "status")
-    (cond (eqb code 97) (bytes "rates")
-    (bytes "unknown command"))))))))))))))
+-- PROTOCOL 5.1: the fourteen codes, what each is called, and the word for every other code
+abbrev pub codes : List ℕ
+codes = 38 ∷ 39 ∷ 42 ∷ 48 ∷ 49 ∷ 51 ∷ 53 ∷ 56 ∷ 60 ∷ 65 ∷ 69 ∷ 70 ∷ 74 ∷ 97 ∷ []
 
--- PROTOCOL 2.1: the ten numbers
+abbrev pub commandWords : List (List ℕ)
+commandWords =
+    bytes "open a non-fiscal receipt"
+    ∷ bytes "close the non-fiscal receipt"
+    ∷ bytes "a line of text"
+    ∷ bytes "open a fiscal receipt"
+    ∷ bytes "a sale"
+    ∷ bytes "subtotal"
+    ∷ bytes "total"
+    ∷ bytes "close the fiscal receipt"
+    ∷ bytes "cancel the fiscal receipt"
+    ∷ bytes "sums of the day"
+    ∷ bytes "the closing"
+    ∷ bytes "the drawer"
+    ∷ bytes "status"
+    ∷ bytes "rates"
+    ∷ bytes "unknown command"
+    ∷ []
+
+abbrev pub commandWord : ℕ → List ℕ
+commandWord code = getD commandWords (firstAt code codes) []
+
+-- PROTOCOL 2.1: the ten numbers, from 0
+abbrev pub replyWords : List (List ℕ)
+replyWords =
+    bytes "done"
+    ∷ bytes "syntax"
+    ∷ bytes "unknown command"
+    ∷ bytes "not permitted now"
+    ∷ bytes "overflow of a sum"
+    ∷ bytes "broken frame"
+    ∷ bytes "repeat"
+    ∷ bytes "too little is lent"
+    ∷ bytes "cannot be sent"
+    ∷ bytes "Unfinished"
+    ∷ []
+
 abbrev pub replyWord : ℕ → List ℕ
-replyWord number =
-    cond (eqb number 0) (bytes "done")
-    (cond (eqb number 1) (bytes "syntax")
-    (cond (eqb number 2) (bytes "unknown command")
-    (cond (eqb number 3) (bytes "not permitted now")
-    (cond (eqb number 4) (bytes "overflow of a sum")
-    (cond (eqb number 5) (bytes "broken frame")
-    (cond (eqb number 6) (bytes "repeat")
-    (cond (eqb number 7) (bytes "too little is lent")
-    (cond (eqb number 8) (bytes "cannot be sent")
-    (cond (eqb number 9) (bytes "Unfinished")
-    (bytes "no reply number"))))))))))
+replyWord number = getD replyWords number []
 
 -- PROTOCOL 2.1, chapter 5: each reason, in the words of its *Refused* sentence
 abbrev pub reasonWord : Reason → List ℕ
@@ -74,3 +86,17 @@ reasonWord MemoryOver = bytes "FM would pass seventeen digits"
 reasonWord CashOver = bytes "cash would pass twelve digits"
 reasonWord InOver = bytes "In would pass twelve digits"
 reasonWord OutOver = bytes "Out would pass twelve digits"
+
+-- PROTOCOL 3.1: what each bit says that is set, from bit 0 to bit 7, of bytes 0 to 5; nothing of a bit that is always 0
+abbrev pub statusWords : List (List ℕ)
+statusWords =
+    bytes "this command: syntax" ∷ bytes "this command: unknown" ∷ [] ∷ [] ∷ [] ∷ bytes "this command was refused" ∷ [] ∷ bytes "always"
+    ∷ bytes "this command: overflow of a sum" ∷ bytes "this command: not permitted, or overflow" ∷ [] ∷ [] ∷ [] ∷ [] ∷ [] ∷ bytes "always"
+    ∷ [] ∷ [] ∷ [] ∷ bytes "a fiscal receipt is open" ∷ [] ∷ bytes "a non-fiscal receipt is open" ∷ [] ∷ bytes "always"
+    ∷ [] ∷ [] ∷ [] ∷ [] ∷ [] ∷ [] ∷ [] ∷ bytes "always"
+    ∷ [] ∷ bytes "always" ∷ bytes "always" ∷ bytes "at most 50 closings are free" ∷ bytes "no closing is free" ∷ bytes "no closing is free" ∷ [] ∷ bytes "always"
+    ∷ [] ∷ bytes "always" ∷ [] ∷ bytes "always" ∷ bytes "always" ∷ [] ∷ [] ∷ bytes "always"
+    ∷ []
+
+abbrev pub statusWord : (byte bit : ℕ) → List ℕ
+statusWord byte bit = cond (ltb bit 8 && ltb byte 6) (getD statusWords (byte * 8 + bit) []) []

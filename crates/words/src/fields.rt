@@ -1,12 +1,14 @@
-// PROTOCOL 4.9 and chapter 5, *Answers*: the words of the fields of an answer.
-use crate::Words;
-use crate::words_of;
+// The words of the fields of an answer (PROTOCOL chapter 5, *Answers*).
+use crate::rows::Words;
+use crate::rows::row;
+use crate::rows::words_of;
 ghost use mathlib.Core.Path.{_≡_};
-ghost use Prim.Native.Nat.{_-_};
+ghost use mathlib.Core.List.{[]};
+ghost use lib.ListN.{getD};
 ghost use Rattle.words.specs.Words.{wordsOf};
-ghost use Rattle.words.specs.Fields.{fieldWord, paidWord, groupWord, counterWord, drawerWord, subtotalWord, closureWord};
+ghost use Rattle.words.specs.Fields.{fieldWord, paidWord, counters, subtotal, groups, closure, drawer};
 
-// The i-th field of the answer to a command, from 0, where commas stand between them.
+// The i-th field of the answer to a command, from 0, where commas stand between them; nothing where there is none.
 pub fn field_word(code: u8, i: usize) -> Words
     ensures { λ r. ⌜ r ≡ wordsOf (fieldWord code i) ⌝ }
 {
@@ -24,77 +26,91 @@ pub fn field_word(code: u8, i: usize) -> Words
     }
 }
 
-// What the sum behind `D` or `R` is (53).
-pub fn paid_word(mark: u8) -> Words
-    ensures { λ r. ⌜ r ≡ wordsOf (paidWord mark) ⌝ }
-{
-    match mark {
-        68 => words_of(b"left to pay"),
-        82 => words_of(b"paid in full; the change"),
-        _ => words_of(b""),
-    }
-}
-
-// A group of the eight, from 0.
-pub fn group_word(i: usize) -> Words
-    ensures { λ r. ⌜ r ≡ wordsOf (groupWord i) ⌝ }
-{
-    match i {
-        0 => words_of(b"group A"),
-        1 => words_of(b"group B"),
-        2 => words_of(b"group C"),
-        3 => words_of(b"group D"),
-        4 => words_of(b"group E"),
-        5 => words_of(b"group F"),
-        6 => words_of(b"group G"),
-        7 => words_of(b"group H"),
-        _ => words_of(b""),
-    }
-}
-
 // 38, 39, 48 and 56.
 fn counter_word(i: usize) -> Words
-    ensures { λ r. ⌜ r ≡ wordsOf (counterWord i) ⌝ }
+    ensures { λ r. ⌜ r ≡ wordsOf (getD counters i []) ⌝ }
 {
-    match i {
-        0 => words_of(b"All: receipts opened since the last closing"),
-        1 => words_of(b"Fiscal: fiscal ones among them"),
-        _ => words_of(b""),
-    }
+    row(
+        b"All: receipts opened since the last closing\n\
+        Fiscal: fiscal ones among them\n",
+        i,
+    )
+}
+
+// 51.
+fn subtotal_word(i: usize) -> Words
+    ensures { λ r. ⌜ r ≡ wordsOf (getD subtotal i []) ⌝ }
+{
+    row(
+        b"total\n\
+        group A\n\
+        group B\n\
+        group C\n\
+        group D\n\
+        group E\n\
+        group F\n\
+        group G\n\
+        group H\n",
+        i,
+    )
+}
+
+// 65 and 97.
+fn group_word(i: usize) -> Words
+    ensures { λ r. ⌜ r ≡ wordsOf (getD groups i []) ⌝ }
+{
+    row(
+        b"group A\n\
+        group B\n\
+        group C\n\
+        group D\n\
+        group E\n\
+        group F\n\
+        group G\n\
+        group H\n",
+        i,
+    )
+}
+
+// 69.
+fn closure_word(i: usize) -> Words
+    ensures { λ r. ⌜ r ≡ wordsOf (getD closure i []) ⌝ }
+{
+    row(
+        b"closings made so far\n\
+        FM: the total over all of them\n\
+        group A\n\
+        group B\n\
+        group C\n\
+        group D\n\
+        group E\n\
+        group F\n\
+        group G\n\
+        group H\n",
+        i,
+    )
 }
 
 // 70.
 fn drawer_word(i: usize) -> Words
-    ensures { λ r. ⌜ r ≡ wordsOf (drawerWord i) ⌝ }
+    ensures { λ r. ⌜ r ≡ wordsOf (getD drawer i []) ⌝ }
 {
-    match i {
-        0 => words_of(b"P"),
-        1 => words_of(b"cash in the drawer"),
-        2 => words_of(b"In: put in since the last closing"),
-        3 => words_of(b"Out: taken out since the last closing"),
+    row(
+        b"P\n\
+        cash in the drawer\n\
+        In: put in since the last closing\n\
+        Out: taken out since the last closing\n",
+        i,
+    )
+}
+
+// PROTOCOL 5.6: what the sum behind `D` or `R` is (53).
+pub fn paid_word(mark: u8) -> Words
+    ensures { λ r. ⌜ r ≡ wordsOf (paidWord mark) ⌝ }
+{
+    match mark {
+        0x44 => words_of(b"left to pay"),
+        0x52 => words_of(b"paid in full; the change"),
         _ => words_of(b""),
     }
-}
-
-// 51: the total, then the groups.
-fn subtotal_word(i: usize) -> Words
-    ensures { λ r. ⌜ r ≡ wordsOf (subtotalWord i) ⌝ }
-{
-    if i == 0 {
-        return words_of(b"total");
-    }
-    group_word(i - 1)
-}
-
-// 69: the closings, FM, then the groups.
-fn closure_word(i: usize) -> Words
-    ensures { λ r. ⌜ r ≡ wordsOf (closureWord i) ⌝ }
-{
-    if i == 0 {
-        return words_of(b"closings made so far");
-    }
-    if i == 1 {
-        return words_of(b"FM: the total over all of them");
-    }
-    group_word(i - 2)
 }

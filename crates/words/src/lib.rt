@@ -1,110 +1,157 @@
-// The words that all programs use for commands, replies, reasons, status bits and the fields of answers (PROTOCOL 5.1, 2.1, 3.1).
+// The words that all programs use for commands, replies, reasons, status bits and the fields of answers (PROTOCOL 5.1, 2.1, 3.1). Each table is
+// one text, a row to a line: strings of many branches are dear to prove.
 pub mod fields;
-pub mod status;
+pub mod rows;
 
 use reasons::Reason;
+use rows::Words;
+use rows::row;
+use rows::words_of;
 ghost use mathlib.Core.Path.{_≡_};
 ghost use Rattle.words.specs.Words.{wordsOf};
-ghost use Rattle.words.specs.Names.{commandWord, replyWord, reasonWord};
-
-// The longest text.
-pub const WORDS_ROOM: usize = 64;
-
-// A text by value: the first `count` bytes; the others are zero.
-pub struct Words {
-    pub bytes: [u8; WORDS_ROOM],
-    pub count: usize,
-}
-
-// A text of 64 bytes at most: of a longer one the first 64.
-pub fn words_of(src: &[u8]) -> Words
-    ensures { λ r. ⌜ r ≡ wordsOf (now (src .entry)) ⌝ }
-{
-    let mut bytes = [0u8; WORDS_ROOM];
-    text::put_bytes(&mut bytes, 0, src);
-    Words {
-        bytes,
-        count: basics::least_size(src.len(), WORDS_ROOM),
-    }
-}
+ghost use Rattle.words.specs.Names.{commandWord, replyWord, reasonWord, statusWord};
+ghost use Rattle.words.specs.Private.{reasonPlace};
 
 // PROTOCOL 5.1: what a command is called.
 pub fn command_word(code: u8) -> Words
     ensures { λ r. ⌜ r ≡ wordsOf (commandWord code) ⌝ }
 {
-    match code {
-        38 => words_of(b"open a non-fiscal receipt"),
-        39 => words_of(b"close the non-fiscal receipt"),
-        42 => words_of(b"a line of text"),
-        48 => words_of(b"open a fiscal receipt"),
-        49 => words_of(b"a sale"),
-        51 => words_of(b"subtotal"),
-        53 => words_of(b"total"),
-        56 => words_of(b"close the fiscal receipt"),
-        60 => words_of(b"cancel the fiscal receipt"),
-        65 => words_of(b"sums of the day"),
-        69 => words_of(b"the closing"),
-        70 => words_of(b"the drawer"),
-        74 => words_of(b"status"),
-        97 => words_of(b"rates"),
-        _ => words_of(b"unknown command"),
-    }
+    let codes = [38u8, 39, 42, 48, 49, 51, 53, 56, 60, 65, 69, 70, 74, 97];
+    row(
+        b"open a non-fiscal receipt\n\
+        close the non-fiscal receipt\n\
+        a line of text\n\
+        open a fiscal receipt\n\
+        a sale\n\
+        subtotal\n\
+        total\n\
+        close the fiscal receipt\n\
+        cancel the fiscal receipt\n\
+        sums of the day\n\
+        the closing\n\
+        the drawer\n\
+        status\n\
+        rates\n\
+        unknown command\n",
+        text::find(&codes, code),
+    )
 }
 
-// PROTOCOL 2.1: the ten numbers.
+// PROTOCOL 2.1: the ten numbers; nothing for any other.
 pub fn reply_word(number: u64) -> Words
     ensures { λ r. ⌜ r ≡ wordsOf (replyWord number) ⌝ }
 {
-    match number {
-        0 => words_of(b"done"),
-        1 => words_of(b"syntax"),
-        2 => words_of(b"unknown command"),
-        3 => words_of(b"not permitted now"),
-        4 => words_of(b"overflow of a sum"),
-        5 => words_of(b"broken frame"),
-        6 => words_of(b"repeat"),
-        7 => words_of(b"too little is lent"),
-        8 => words_of(b"cannot be sent"),
-        9 => words_of(b"Unfinished"),
-        _ => words_of(b"no reply number"),
-    }
+    row(
+        b"done\n\
+        syntax\n\
+        unknown command\n\
+        not permitted now\n\
+        overflow of a sum\n\
+        broken frame\n\
+        repeat\n\
+        too little is lent\n\
+        cannot be sent\n\
+        Unfinished\n",
+        number as usize,
+    )
 }
 
 // PROTOCOL chapter 5, *Refused*: each reason.
 pub fn reason_word(reason: Reason) -> Words
     ensures { λ r. ⌜ r ≡ wordsOf (reasonWord reason) ⌝ }
 {
+    row(
+        b"done\n\
+        the data is not of the command's form\n\
+        a number that no data gives\n\
+        there is no such command\n\
+        the password is not 0000\n\
+        a receipt is open\n\
+        9999 receipts were opened since the last closing\n\
+        the memory is full: 1825 closings are made\n\
+        no fiscal receipt is open\n\
+        a 53 has been done on this receipt\n\
+        the receipt has 512 lines already\n\
+        the group is disabled\n\
+        the amount taken off is above the line\n\
+        there is no such line to take back\n\
+        the line taken back is above what its group has\n\
+        the receipt is paid in full\n\
+        it is not cash, and above the rest\n\
+        the receipt is not paid in full\n\
+        no non-fiscal receipt is open\n\
+        there is less than that in the drawer\n\
+        Fiscal would pass its four digits\n\
+        price times quantity is above 999999.99\n\
+        the finished line is above 999999.99\n\
+        the receipt's total would pass ten digits\n\
+        the group's day sum would pass twelve digits\n\
+        cash, or the mode's register, would pass twelve digits\n\
+        a day sum would pass twelve digits\n\
+        FM would pass seventeen digits\n\
+        cash would pass twelve digits\n\
+        In would pass twelve digits\n\
+        Out would pass twelve digits\n",
+        reason_place(reason),
+    )
+}
+
+// The row of a reason.
+fn reason_place(reason: Reason) -> usize
+    ensures { λ r. ⌜ r ≡ reasonPlace reason ⌝ }
+{
     match reason {
-        Reason::Done => words_of(b"done"),
-        Reason::Syntax => words_of(b"the data is not of the command's form"),
-        Reason::OutOfRange => words_of(b"a number that no data gives"),
-        Reason::Unknown => words_of(b"there is no such command"),
-        Reason::WrongPassword => words_of(b"the password is not 0000"),
-        Reason::ReceiptOpen => words_of(b"a receipt is open"),
-        Reason::ManyReceipts => words_of(b"9999 receipts were opened since the last closing"),
-        Reason::MemoryFull => words_of(b"the memory is full: 1825 closings are made"),
-        Reason::NoFiscal => words_of(b"no fiscal receipt is open"),
-        Reason::PaymentDone => words_of(b"a 53 has been done on this receipt"),
-        Reason::ManyLines => words_of(b"the receipt has 512 lines already"),
-        Reason::GroupDisabled => words_of(b"the group is disabled"),
-        Reason::OffAboveLine => words_of(b"the amount taken off is above the line"),
-        Reason::NoLineBack => words_of(b"there is no such line to take back"),
-        Reason::OffAboveGroup => words_of(b"the line taken back is above what its group has"),
-        Reason::PaidInFull => words_of(b"the receipt is paid in full"),
-        Reason::AboveRest => words_of(b"it is not cash, and above the rest"),
-        Reason::NotPaid => words_of(b"the receipt is not paid in full"),
-        Reason::NoText => words_of(b"no non-fiscal receipt is open"),
-        Reason::LittleCash => words_of(b"there is less than that in the drawer"),
-        Reason::ManyFiscal => words_of(b"Fiscal would pass its four digits"),
-        Reason::LineOver => words_of(b"price times quantity is above 999999.99"),
-        Reason::FinishedOver => words_of(b"the finished line is above 999999.99"),
-        Reason::TotalOver => words_of(b"the receipt's total would pass ten digits"),
-        Reason::GroupOver => words_of(b"the group's day sum would pass twelve digits"),
-        Reason::RegisterOver => words_of(b"cash, or the mode's register, would pass twelve digits"),
-        Reason::DayOver => words_of(b"a day sum would pass twelve digits"),
-        Reason::MemoryOver => words_of(b"FM would pass seventeen digits"),
-        Reason::CashOver => words_of(b"cash would pass twelve digits"),
-        Reason::InOver => words_of(b"In would pass twelve digits"),
-        Reason::OutOver => words_of(b"Out would pass twelve digits"),
+        Reason::Done => 0,
+        Reason::Syntax => 1,
+        Reason::OutOfRange => 2,
+        Reason::Unknown => 3,
+        Reason::WrongPassword => 4,
+        Reason::ReceiptOpen => 5,
+        Reason::ManyReceipts => 6,
+        Reason::MemoryFull => 7,
+        Reason::NoFiscal => 8,
+        Reason::PaymentDone => 9,
+        Reason::ManyLines => 10,
+        Reason::GroupDisabled => 11,
+        Reason::OffAboveLine => 12,
+        Reason::NoLineBack => 13,
+        Reason::OffAboveGroup => 14,
+        Reason::PaidInFull => 15,
+        Reason::AboveRest => 16,
+        Reason::NotPaid => 17,
+        Reason::NoText => 18,
+        Reason::LittleCash => 19,
+        Reason::ManyFiscal => 20,
+        Reason::LineOver => 21,
+        Reason::FinishedOver => 22,
+        Reason::TotalOver => 23,
+        Reason::GroupOver => 24,
+        Reason::RegisterOver => 25,
+        Reason::DayOver => 26,
+        Reason::MemoryOver => 27,
+        Reason::CashOver => 28,
+        Reason::InOver => 29,
+        Reason::OutOver => 30,
     }
+}
+
+// PROTOCOL 3.1: what a status bit says that is set, both counted from 0; nothing where it is always 0. A byte to a line.
+pub fn status_word(byte: usize, bit: usize) -> Words
+    ensures { λ r. ⌜ r ≡ wordsOf (statusWord byte bit) ⌝ }
+{
+    if 8 <= bit {
+        return words_of(b"");
+    }
+    if 6 <= byte {
+        return words_of(b"");
+    }
+    row(
+        b"this command: syntax\nthis command: unknown\n\n\n\nthis command was refused\n\nalways\n\
+        this command: overflow of a sum\nthis command: not permitted, or overflow\n\n\n\n\n\nalways\n\
+        \n\n\na fiscal receipt is open\n\na non-fiscal receipt is open\n\nalways\n\
+        \n\n\n\n\n\n\nalways\n\
+        \nalways\nalways\nat most 50 closings are free\nno closing is free\nno closing is free\n\nalways\n\
+        \nalways\n\nalways\nalways\n\n\nalways\n",
+        byte * 8 + bit,
+    )
 }

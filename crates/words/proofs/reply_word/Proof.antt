@@ -1,79 +1,13 @@
-use borrow.Author.Tests.{ne-eqb}
+use mathlib.Core.Path.{refl, ap, _∙_}
 use borrow.Author.Needs.{needs}
+use Rattle.words.specs.Words.{wordsOf}
+use Rattle.words.specs.Names.{replyWords}
+use Rattle.words.proofs.Table.{in-table}
 use Rattle.words.proofs.reply_word.Statement.{statement}
 use Rattle.words.proofs.reply_word.Tie as tie
 
 returns : tie.Need-returns
-returns c = rw (c .before .before .match .keys1) (c .words-of .ensures)
-
-returns-2 : tie.Need-returns-2
-returns-2 c = rw (c .before .before .match .keys2) (c .words-of2 .ensures)
-
-returns-3 : tie.Need-returns-3
-returns-3 c = rw (c .before .before .match .keys3) (c .words-of3 .ensures)
-
-returns-4 : tie.Need-returns-4
-returns-4 c = rw (c .before .before .match .keys4) (c .words-of4 .ensures)
-
-returns-5 : tie.Need-returns-5
-returns-5 c = rw (c .before .before .match .keys5) (c .words-of5 .ensures)
-
-returns-6 : tie.Need-returns-6
-returns-6 c = rw (c .before .before .match .keys6) (c .words-of6 .ensures)
-
-returns-7 : tie.Need-returns-7
-returns-7 c = rw (c .before .before .match .keys7) (c .words-of7 .ensures)
-
-returns-8 : tie.Need-returns-8
-returns-8 c = rw (c .before .before .match .keys8) (c .words-of8 .ensures)
-
-returns-9 : tie.Need-returns-9
-returns-9 c = rw (c .before .before .match .keys9) (c .words-of9 .ensures)
-
-returns-10 : tie.Need-returns-10
-returns-10 c = rw (c .before .before .match .keys10) (c .words-of10 .ensures)
-
-returns-11 : tie.Need-returns-11
-returns-11 c =
-    let k = c .before .before in
-    let m = k .match .rest in
-    let n = k .before .args .number in
-    rw (ne-eqb n 0 (m .0 .0 .0 .0 .0 .0 .0 .0 .0 .1), ne-eqb n 1 (m .0 .0 .0 .0 .0 .0 .0 .0 .1), ne-eqb n 2 (m .0 .0 .0 .0 .0 .0 .0 .1), ne-eqb n 3 (m .0 .0 .0 .0 .0 .0 .1), ne-eqb n 4 (m .0 .0 .0 .0 .0 .1), ne-eqb n 5 (m .0 .0 .0 .0 .1), ne-eqb n 6 (m .0 .0 .0 .1), ne-eqb n 7 (m .0 .0 .1), ne-eqb n 8 (m .0 .1), ne-eqb n 9 (m .1)) (c .words-of11 .ensures)
+returns c = c .row .ensures ∙ ap wordsOf (in-table replyWords refl _ refl (c .before .before .args .number))
 
 pub reply-word-spec : {M : Type 1} → statement M
-reply-word-spec =
-    tie.close
-    (tie.spec
-    (λ c. search needs)
-    (λ c κs. search needs)
-    (λ c. search needs)
-    (λ c κs. search needs)
-    (λ c. search needs)
-    (λ c κs. search needs)
-    (λ c. search needs)
-    (λ c κs. search needs)
-    (λ c. search needs)
-    (λ c κs. search needs)
-    (λ c. search needs)
-    (λ c κs. search needs)
-    (λ c. search needs)
-    (λ c κs. search needs)
-    (λ c. search needs)
-    (λ c κs. search needs)
-    (λ c. search needs)
-    (λ c κs. search needs)
-    (λ c. search needs)
-    (λ c κs. search needs)
-    (λ c. search needs)
-    (λ c κs. search needs)
-    returns
-    returns-2
-    returns-3
-    returns-4
-    returns-5
-    returns-6
-    returns-7
-    returns-8
-    returns-9
-    returns-10
-    returns-11)
+reply-word-spec = tie.close (tie.spec (λ c. search needs) (λ c κs. search needs) returns)

@@ -1,30 +1,13 @@
-use borrow.Author.Tests.{ne-eqb}
+use mathlib.Core.Path.{refl, ap, _∙_}
 use borrow.Author.Needs.{needs}
+use Rattle.words.specs.Words.{wordsOf}
+use Rattle.words.specs.Fields.{closure}
+use Rattle.words.proofs.Table.{in-table}
 use Rattle.words.proofs.fields.closure_word.Statement.{statement}
 use Rattle.words.proofs.fields.closure_word.Tie as tie
 
 returns : tie.Need-returns
-returns c = rw (c .before .before .if1 .taken) (c .words-of .ensures)
-
-returns-2 : tie.Need-returns-2
-returns-2 c = rw (c .before .before .if2 .taken) (c .words-of2 .ensures)
-
-returns-3 : tie.Need-returns-3
-returns-3 c =
-    let i = c .before in
-    let n = i .before .before .args .i in
-    rw (ne-eqb n 0 (i .before .if1 .left), ne-eqb n 1 (i .if2 .left)) (c .group-word .ensures)
+returns c = c .row .ensures ∙ ap wordsOf (in-table closure refl _ refl (c .before .before .args .i))
 
 pub closure-word-spec : {M : Type 1} → statement M
-closure-word-spec =
-    tie.close
-    (tie.spec
-    (λ c. search needs)
-    (λ c κs. search needs)
-    returns
-    (λ c. search needs)
-    (λ c κs. search needs)
-    returns-2
-    (λ c. search needs)
-    (λ c κs. search needs)
-    returns-3)
+closure-word-spec = tie.close (tie.spec (λ c. search needs) (λ c κs. search needs) returns)

@@ -1,31 +1,13 @@
-use borrow.Author.Tests.{ne-eqb}
+use mathlib.Core.Path.{refl, ap, _∙_}
 use borrow.Author.Needs.{needs}
+use Rattle.words.specs.Words.{wordsOf}
+use Rattle.words.specs.Fields.{counters}
+use Rattle.words.proofs.Table.{in-table}
 use Rattle.words.proofs.fields.counter_word.Statement.{statement}
 use Rattle.words.proofs.fields.counter_word.Tie as tie
 
 returns : tie.Need-returns
-returns c = rw (c .before .before .match .keys1) (c .words-of .ensures)
-
-returns-2 : tie.Need-returns-2
-returns-2 c = rw (c .before .before .match .keys2) (c .words-of2 .ensures)
-
-returns-3 : tie.Need-returns-3
-returns-3 c =
-    let k = c .before .before in
-    let m = k .match .rest in
-    let n = k .before .args .i in
-    rw (ne-eqb n 0 (m .0 .1), ne-eqb n 1 (m .1)) (c .words-of3 .ensures)
+returns c = c .row .ensures ∙ ap wordsOf (in-table counters refl _ refl (c .before .before .args .i))
 
 pub counter-word-spec : {M : Type 1} → statement M
-counter-word-spec =
-    tie.close
-    (tie.spec
-    (λ c. search needs)
-    (λ c κs. search needs)
-    (λ c. search needs)
-    (λ c κs. search needs)
-    (λ c. search needs)
-    (λ c κs. search needs)
-    returns
-    returns-2
-    returns-3)
+counter-word-spec = tie.close (tie.spec (λ c. search needs) (λ c κs. search needs) returns)

@@ -1,21 +1,13 @@
-use borrow.Author.Tests.{ne-eqb}
+use mathlib.Core.Path.{refl, ap, _∙_}
 use borrow.Author.Needs.{needs}
+use Rattle.words.specs.Words.{wordsOf}
+use Rattle.words.specs.Fields.{subtotal}
+use Rattle.words.proofs.Table.{in-table}
 use Rattle.words.proofs.fields.subtotal_word.Statement.{statement}
 use Rattle.words.proofs.fields.subtotal_word.Tie as tie
 
 returns : tie.Need-returns
-returns c = rw (c .before .before .if1 .taken) (c .words-of .ensures)
-
-returns-2 : tie.Need-returns-2
-returns-2 c = rw (ne-eqb (c .before .before .args .i) 0 (c .before .if1 .left)) (c .group-word .ensures)
+returns c = c .row .ensures ∙ ap wordsOf (in-table subtotal refl _ refl (c .before .before .args .i))
 
 pub subtotal-word-spec : {M : Type 1} → statement M
-subtotal-word-spec =
-    tie.close
-    (tie.spec
-    (λ c. search needs)
-    (λ c κs. search needs)
-    returns
-    (λ c. search needs)
-    (λ c κs. search needs)
-    returns-2)
+subtotal-word-spec = tie.close (tie.spec (λ c. search needs) (λ c κs. search needs) returns)

@@ -1,6 +1,6 @@
 use borrow.Author.Needs.{needs}
-use Rattle.words.proofs.words_of.Statement.{statement}
-use Rattle.words.proofs.words_of.Tie as tie
+use Rattle.words.proofs.rows.words_of.Statement.{statement}
+use Rattle.words.proofs.rows.words_of.Tie as tie
 
 returns : tie.Need-returns
 returns c = rw (c .before .before .put-bytes .ensures, c .least-size .ensures)
