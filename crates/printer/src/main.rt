@@ -39,8 +39,6 @@ fn main() {
 fn run(ends: Ends) {
     let mut frame = [0u8; FRAME_ROOM];
     let mut last = [0u8; ANSWER_ROOM];
-    let mut buf = [0u8; ANSWER_ROOM];
-    let mut none = [0u8; 1];
     let mut out = out_room();
     let mut bytes = part_room();
     let mut kept = device::fresh_kept();
@@ -52,6 +50,8 @@ fn run(ends: Ends) {
             return;
         }
         let n = stage.count;
+        let mut buf = [0u8; ANSWER_ROOM];
+        let mut none = [0u8; 1];
         let part = recorder::hear_part(
             kept,
             &mut frame,
