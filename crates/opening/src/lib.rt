@@ -1,4 +1,5 @@
-// What `printer` stands between: the line and the recording, as its arguments name them, opened before any byte is heard (LINE 1 and 2).
+// What `printer` stands between: the line and the recording, as its arguments name them, opened before any byte is heard (LINE 1 and 2). No
+// contract can say what the system opens: what is decided here is in `options` and `keeping`, and each function is proved safe and ending.
 use libc::STDERR_FILENO;
 use libc::STDIN_FILENO;
 use libc::STDOUT_FILENO;
