@@ -1,7 +1,9 @@
 // A device on a line: the raw bytes that it receives on standard input or a LINE, all that it gives back on standard output or the same LINE,
 // as soon as it is there. With a RECORDING it stands where that ends, and keeps there what it hears (LINE).
+use device::Kept;
 use opening::Ends;
 use reader::FRAME_ROOM;
+use recorder::Part;
 use wire::ANSWER_ROOM;
 ghost use mathlib.Core.Path.{_≡_};
 ghost use lib.ListN.{length};
@@ -34,17 +36,7 @@ fn run(ends: Ends) {
             return;
         }
         let n = stage.count;
-        let mut buf = [0u8; ANSWER_ROOM];
-        let mut none = [0u8; 1];
-        let part = recorder::hear_part(
-            kept,
-            &mut frame,
-            &mut last,
-            &mut buf,
-            &bytes[0..n],
-            &mut out,
-            &mut none[0..0],
-        );
+        let part = hear(kept, &mut frame, &mut last, &bytes[0..n], &mut out);
         let next = part.kept;
         kept = next;
         if !passing::answer(ends, stage, &out, part.given) {
@@ -52,6 +44,19 @@ fn run(ends: Ends) {
         }
         turns -= 1;
     }
+}
+
+// A part of the line or of the recording; what it gives back stands in `out`.
+fn hear(
+    kept: Kept,
+    frame: &mut [u8; FRAME_ROOM],
+    last: &mut [u8; ANSWER_ROOM],
+    bytes: &[u8],
+    out: &mut [u8],
+) -> Part {
+    let mut buf = [0u8; ANSWER_ROOM];
+    let mut none = [0u8; 1];
+    recorder::hear_part(kept, frame, last, &mut buf, bytes, out, &mut none[0..0])
 }
 
 fn part_room() -> [u8; PART_ROOM]
