@@ -104,6 +104,7 @@ fn open_recording(name: &[u8]) -> Tape {
     }
 }
 
+// A file that is new is opened again: the descriptor that it is made with writes at its own place and not at the file's end.
 fn open_or_make(name: &[u8]) -> i32 {
     let fd = os::open_append(name);
     if 0 <= fd {
@@ -112,7 +113,12 @@ fn open_or_make(name: &[u8]) -> i32 {
     if os::errno() != libc::ENOENT {
         return fd;
     }
-    os::create(name)
+    let made = os::create(name);
+    if made < 0 {
+        return made;
+    }
+    libc::close(made);
+    os::open_append(name)
 }
 
 fn no_tape(name: &[u8]) -> Tape {
