@@ -6,6 +6,7 @@ use libc::SEEK_END;
 use libc::STDERR_FILENO;
 use opening::Ends;
 ghost use mathlib.Core.Path.{_≡_};
+ghost use mathlib.Core.Bool.{false};
 ghost use Prim.Native.Nat.{_≤_};
 ghost use lib.ListN.{length};
 
@@ -19,8 +20,15 @@ pub struct Stage {
 }
 
 // Before the first part.
-pub fn first(replays: bool) -> Stage {
-    stands(replays, 0, 0, false)
+pub fn first(replays: bool) -> Stage
+    ensures { λ r. ⌜ r ≡ record { replays = replays; heard = 0; count = 0; over = false } ⌝ }
+{
+    Stage {
+        replays,
+        heard: 0,
+        count: 0,
+        over: false,
+    }
 }
 
 fn stands(replays: bool, heard: u64, count: usize, over: bool) -> Stage
