@@ -1,0 +1,3 @@
+pub mod Words
+pub mod Content
+pub mod Script

@@ -1,0 +1,53 @@
+// The words of a line, and hexadecimal digits (SCRIPTS 2, 4).
+ghost use mathlib.Core.Path.{_≡_};
+ghost use Prim.Native.Nat.{_≤_};
+ghost use Rattle.script.specs.Words.{same, word, behind, digitOf};
+
+// Whether a word is this one.
+pub fn is(s: &[u8], this: &[u8]) -> bool
+    ensures { λ r. ⌜ r ≡ same (now (s .entry)) (now (this .entry)) ⌝ }
+{
+    if s.len() != this.len() {
+        return false;
+    }
+    let mut i = 0;
+    while i < s.len() {
+        if s[i] != this[i] {
+            return false;
+        }
+        i += 1;
+    }
+    true
+}
+
+// The first word.
+pub fn word(s: &[u8]) -> &[u8]
+    ensures { λ r. ⌜ now r ≡ word (now (s .entry)) ⌝ }
+{
+    let end = text::find(s, b' ');
+    &s[..end]
+}
+
+// What stands behind the first space.
+pub fn behind(s: &[u8]) -> &[u8]
+    ensures { λ r. ⌜ now r ≡ behind (now (s .entry)) ⌝ }
+{
+    let end = text::find(s, b' ');
+    if end == s.len() {
+        return &s[end..];
+    }
+    let next = end + 1;
+    &s[next..]
+}
+
+// The value of a hexadecimal digit; 16 where it is none.
+pub fn digit(b: u8) -> u8
+    ensures { λ r. ⌜ r ≡ digitOf b ⌝ }
+{
+    match b {
+        b'0'..=b'9' => b - b'0',
+        b'A'..=b'F' => b - 55,
+        b'a'..=b'f' => b - 87,
+        _ => 16,
+    }
+}
