@@ -47,7 +47,7 @@ byteOf s = digitOf (getD s 0 0) * 16 + digitOf (getD s 1 0)
 -- SCRIPTS 5: `PLACE becomes HH`
 abbrev pub replacing : Number → List ℕ → Named
 replacing NotOne s = Unclear
-replacing (Is place) s = cond (leb 1 place && isByte s) (Clear (Becomes place (byteOf s))) Unclear
+replacing (Is place) s = cond (isByte s && leb 1 place) (Clear (Becomes place (byteOf s))) Unclear
 
 abbrev pub becomesIn : List ℕ → Named
 becomesIn s = cond (is "becomes" (word (behind s))) (replacing (digitsOf 3 (word s)) (behind (behind s))) Unclear

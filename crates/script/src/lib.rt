@@ -85,7 +85,6 @@ fn says_nothing(line: &[u8]) -> bool
 // What happens to the try of a number, or to its answer.
 fn numbered(answer: bool, number: Number, s: &[u8]) -> Act
     ensures { λ r. ⌜ r ≡ numbered answer number (now (s .entry)) ⌝ }
-    ensures { λ r. ⌜ ((t : List ℕ) → contentOf r t ≡ []) ⌝ }
 {
     let Number::Is(n) = number else {
         return Act::Wrong(4);
@@ -98,7 +97,6 @@ fn numbered(answer: bool, number: Number, s: &[u8]) -> Act
 
 fn happens_to(answer: bool, attempt: u8, named: Named) -> Act
     ensures { λ r. ⌜ r ≡ happensTo answer attempt named ⌝ }
-    ensures { λ r. ⌜ ((t : List ℕ) → contentOf r t ≡ []) ⌝ }
 {
     match named {
         Named::Clear(fault) => Act::Happens {
@@ -145,7 +143,7 @@ fn replacing(number: Number, s: &[u8]) -> Named
     }
     let high = digit(s[0]);
     let low = digit(s[1]);
-    if (1 <= place) & (high < 16) & (low < 16) {
+    if (high < 16) & (low < 16) & (1 <= place) {
         return Named::Clear(Fault::Becomes {
             place: place as usize,
             byte: high * 16 + low,

@@ -1,6 +1,5 @@
 // The words of a line, and hexadecimal digits (SCRIPTS 2, 4).
 ghost use mathlib.Core.Path.{_≡_};
-ghost use Prim.Native.Nat.{_≤_};
 ghost use Rattle.script.specs.Words.{same, word, behind, digitOf};
 
 // Whether a word is this one.
@@ -44,10 +43,14 @@ pub fn behind(s: &[u8]) -> &[u8]
 pub fn digit(b: u8) -> u8
     ensures { λ r. ⌜ r ≡ digitOf b ⌝ }
 {
-    match b {
-        b'0'..=b'9' => b - b'0',
-        b'A'..=b'F' => b - 55,
-        b'a'..=b'f' => b - 87,
-        _ => 16,
+    if (b'0' <= b) & (b <= b'9') {
+        return b - 0x30;
     }
+    if (b'A' <= b) & (b <= b'F') {
+        return b - 0x37;
+    }
+    if (b'a' <= b) & (b <= b'f') {
+        return b - 0x57;
+    }
+    16
 }

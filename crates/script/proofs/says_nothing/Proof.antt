@@ -1,21 +1,15 @@
 use borrow.Author.Needs.{needs}
+use denote.Ref.{now}
+use lib.ListN.{length}
+use borrow.Author.Tests.{eq-eqb, ne-eqb}
 use Rattle.script.proofs.says_nothing.Statement.{statement}
 use Rattle.script.proofs.says_nothing.Tie as tie
-use Rattle.script.proofs.says_nothing.Reads as reads
-use Rattle.script.proofs.says_nothing.Lts as lts
-use Rattle.text.proofs.begins_with.Reads as begins-with-reads
 
--- src/lib.rt:80:9
 returns : tie.Need-returns
-returns c = ?
+returns c = rw (eq-eqb (length (now (c .before .before .args .line))) 0 (c .if1 .taken))
 
--- src/lib.rt:82:5
-begins-with-requires : tie.Need-begins-with-requires
-begins-with-requires c κs = search needs
-
--- src/lib.rt:76:1
 returns-2 : tie.Need-returns-2
-returns-2 c = ?
+returns-2 c = rw (ne-eqb (length (now (c .before .before .before .args .line))) 0 (c .before .if1 .left)) (c .begins-with .ensures)
 
 pub says-nothing-spec : {M : Type 1} → statement M
-says-nothing-spec = tie.close (tie.spec returns begins-with-requires returns-2)
+says-nothing-spec = tie.close (tie.spec returns (λ c κs. search needs) returns-2)

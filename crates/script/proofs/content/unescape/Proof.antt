@@ -1,56 +1,56 @@
+use borrow.Author.Needs.{needs}
+use Prim.Native.Nat.{_-_}
+use mathlib.Core.Path.{_≡_, ap, _∙_}
+use native.Mathlib.Omega.{arith}
+use denote.Ref.{now}
+use lib.ListN.{length}
+use lib.Seq.{length-sets}
+use Rattle.script.proofs.Saying.{Head, head-start, head-turn, ends-there, all-counted, all-put}
 use Rattle.script.proofs.content.unescape.Statement.{statement}
 use Rattle.script.proofs.content.unescape.Tie as tie
-use Rattle.script.proofs.content.unescape.Reads as reads
-use Rattle.script.proofs.content.unescape.Lts as lts
-use Rattle.script.proofs.content.put_said.Reads as put-said-reads
-use Rattle.script.proofs.content.stand_after.Reads as stand-after-reads
-use Rattle.script.proofs.content.step_of.Reads as step-of-reads
 
 abbrev Inv-loop : tie.InvT-loop
-Inv-loop s buf₀ stand₀ n₀ i₀ buf stand n i = ?
+Inv-loop s buf₀ stand₀ n₀ i₀ buf stand n i = Head s buf₀ buf stand n i
 
 abbrev μ-loop : tie.MeasureT-loop
-μ-loop s buf₀ stand₀ n₀ i₀ buf stand n i = ?
+μ-loop s buf₀ stand₀ n₀ i₀ buf stand n i = length s - i
 
--- src/content.rt:26:5
 loop-holds : tie.Need-loop-holds Inv-loop μ-loop
-loop-holds c = ?
+loop-holds c = head-start (now (c .before .before .args .s)) (now (c .before .before .args .buf))
 
--- src/content.rt:27:35
 shared-slice-read-step-of : tie.Need-shared-slice-read-step-of Inv-loop μ-loop
-shared-slice-read-step-of c = ?
+shared-slice-read-step-of c = omega arith
 
--- src/content.rt:27:13
-step-of-requires : tie.Need-step-of-requires Inv-loop μ-loop
-step-of-requires c κs = ?
-
--- src/content.rt:28:9
 put-said-requires : tie.Need-put-said-requires Inv-loop μ-loop
-put-said-requires c κs = ?
+put-said-requires c κs = omega (arith, c .before .before .before .before .loop .inv .few, c .before .before .before .loop-test .taken)
 
--- src/content.rt:29:9
-stand-after-requires : tie.Need-stand-after-requires Inv-loop μ-loop
-stand-after-requires c κs = ?
-
--- src/content.rt:30:9
 add-i : tie.Need-add-i Inv-loop μ-loop
-add-i c = ?
+add-i c = omega arith
 
--- src/content.rt:26:5
 loop-less : tie.Need-loop-less Inv-loop μ-loop
-loop-less c = ?
+loop-less c = omega arith
 
--- src/content.rt:26:5
 loop-again : tie.Need-loop-again Inv-loop μ-loop
-loop-again c = ?
+loop-again c =
+    let at = c .before .before .before .before .before .before .before .before in
+    let a = at .before .before .before .args in
+    let put = c .before .before .before in
+    head-turn (now (a .s)) (at .loop .stand) (at .loop .i) (omega arith) (now (a .buf)) (at .loop .buf) (at .loop .n) (at .loop .inv)
+    _ (put .before .before .step-of .ensures) _ (put .put-said .ensures .0) _ (put .put-said .ensures .1) _ (c .stand-after .ensures)
 
--- src/content.rt:19:1
 same-length : tie.Need-same-length Inv-loop μ-loop
-same-length c = ?
+same-length c =
+    let at = c .before .loop in
+    let a = c .before .before .before .before .args in
+    simp length-sets at (ap length (all-put (now (a .s)) (now (a .buf)) (at .buf) (at .stand) (at .n) (at .i) (at .inv) (c .loop-test .left)))
 
--- src/content.rt:19:1
 returns : tie.Need-returns Inv-loop μ-loop
-returns c = ?
+returns c =
+    let at = c .before .loop in
+    let a = c .before .before .before .before .args in
+    let ends = ends-there (now (a .s)) (now (a .buf)) (at .buf) (at .stand) (at .n) (at .i) (at .inv) (c .loop-test .left) in
+    let counts = all-counted (now (a .s)) (now (a .buf)) (at .buf) (at .stand) (at .n) (at .i) (at .inv) (c .loop-test .left) in
+    (cc, all-put (now (a .s)) (now (a .buf)) (at .buf) (at .stand) (at .n) (at .i) (at .inv) (c .loop-test .left))
 
 pub unescape-spec : {M : Type 1} → statement M
 unescape-spec =
@@ -60,9 +60,9 @@ unescape-spec =
     μ-loop
     loop-holds
     shared-slice-read-step-of
-    step-of-requires
+    (λ c κs. search needs)
     put-said-requires
-    stand-after-requires
+    (λ c κs. search needs)
     add-i
     loop-less
     loop-again

@@ -1,55 +1,29 @@
-use borrow.Author.Needs.{needs}
+use native.Mathlib.Omega.{arith}
+use Rattle.script.proofs.Cuts.{low-end}
 use Rattle.script.proofs.words.digit.Statement.{statement}
 use Rattle.script.proofs.words.digit.Tie as tie
-use Rattle.script.proofs.words.digit.Reads as reads
-use Rattle.script.proofs.words.digit.Lts as lts
 
--- src/words.rt:49:24
 sub-result : tie.Need-sub-result
-sub-result c = search needs
+sub-result c = omega (arith, low-end 0x30 0x39 (c .before .args .b) (c .if1 .taken))
 
--- src/words.rt:50:24
-sub-result-2 : tie.Need-sub-result-2
-sub-result-2 c = search needs
-
--- src/words.rt:44:1
 returns : tie.Need-returns
-returns c = ?
+returns c = rw (c .if1 .taken)
 
--- src/words.rt:44:1
+sub-result-2 : tie.Need-sub-result-2
+sub-result-2 c = omega (arith, low-end 0x41 0x46 (c .before .before .args .b) (c .if2 .taken))
+
 returns-2 : tie.Need-returns-2
-returns-2 c = ?
+returns-2 c = rw (c .before .if1 .left, c .if2 .taken)
 
--- src/words.rt:44:1
+sub-result-3 : tie.Need-sub-result-3
+sub-result-3 c = omega (arith, low-end 0x61 0x66 (c .before .before .before .args .b) (c .if3 .taken))
+
 returns-3 : tie.Need-returns-3
-returns-3 c = ?
+returns-3 c = rw (c .before .before .if1 .left, c .before .if2 .left, c .if3 .taken)
 
--- src/words.rt:44:1
 returns-4 : tie.Need-returns-4
-returns-4 c = ?
-
--- src/words.rt:44:1
-returns-5 : tie.Need-returns-5
-returns-5 c = ?
-
--- src/words.rt:44:1
-returns-6 : tie.Need-returns-6
-returns-6 c = ?
-
--- src/words.rt:44:1
-returns-7 : tie.Need-returns-7
-returns-7 c = ?
+returns-4 c = rw (c .before .before .if1 .left, c .before .if2 .left, c .if3 .left)
 
 pub digit-spec : {M : Type 1} → statement M
 digit-spec =
-    tie.close
-    (tie.spec
-    sub-result
-    sub-result-2
-    returns
-    returns-2
-    returns-3
-    returns-4
-    returns-5
-    returns-6
-    returns-7)
+    tie.close (tie.spec sub-result returns sub-result-2 returns-2 sub-result-3 returns-3 returns-4)

@@ -1,49 +1,55 @@
+-- The bytes passed are the same in both, so that the words are the same where the rests are.
+use Prim.Native.Nat.{_≤_, _-_}
+use mathlib.Core.Path.{_≡_, refl, sym, _∙_}
+use native.Mathlib.Omega.{arith}
+use denote.Ref.{now}
+use lib.ListN.{length, drop}
+use Rattle.script.specs.Words.{same}
+use Rattle.script.proofs.Cuts.{same-sized, same-turn, same-not, same-done}
 use Rattle.script.proofs.words.is.Statement.{statement}
 use Rattle.script.proofs.words.is.Tie as tie
-use Rattle.script.proofs.words.is.Reads as reads
-use Rattle.script.proofs.words.is.Lts as lts
 
 abbrev Inv-loop : tie.InvT-loop
-Inv-loop s this i₀ i = ?
+Inv-loop s this i₀ i = (i ≤ length s) × (length s ≡ length this) × (same s this ≡ same (drop i s) (drop i this))
 
 abbrev μ-loop : tie.MeasureT-loop
-μ-loop s this i₀ i = ?
+μ-loop s this i₀ i = length s - i
 
--- src/words.rt:11:9
 returns : tie.Need-returns Inv-loop μ-loop
-returns c = ?
+returns c = same-sized (now (c .before .args .s)) (now (c .before .args .this)) (c .if1 .taken)
 
--- src/words.rt:14:5
 loop-holds : tie.Need-loop-holds Inv-loop μ-loop
-loop-holds c = ?
+loop-holds c = (omega arith, c .if1 .left, refl)
 
--- src/words.rt:15:12
 shared-slice-read-if2 : tie.Need-shared-slice-read-if2 Inv-loop μ-loop
-shared-slice-read-if2 c = ?
+shared-slice-read-if2 c = omega arith
 
--- src/words.rt:15:20
 shared-slice-read-if2-2 : tie.Need-shared-slice-read-if2-2 Inv-loop μ-loop
-shared-slice-read-if2-2 c = ?
+shared-slice-read-if2-2 c = omega arith
 
--- src/words.rt:16:13
 returns-2 : tie.Need-returns-2 Inv-loop μ-loop
-returns-2 c = ?
+returns-2 c =
+    let at = c .before .before .before .before in
+    let a = at .before .before .args in
+    sym (at .loop .inv .2 ∙ same-not (now (a .s)) (now (a .this)) (at .loop .i) (omega arith) (omega arith) (c .if2 .taken))
 
--- src/words.rt:18:9
 add-i : tie.Need-add-i Inv-loop μ-loop
-add-i c = ?
+add-i c = omega arith
 
--- src/words.rt:14:5
 loop-less : tie.Need-loop-less Inv-loop μ-loop
-loop-less c = ?
+loop-less c = omega arith
 
--- src/words.rt:14:5
 loop-again : tie.Need-loop-again Inv-loop μ-loop
-loop-again c = ?
+loop-again c =
+    let at = c .before .before .before .before in
+    let a = at .before .before .args in
+    (omega arith, at .loop .inv .1, at .loop .inv .2 ∙ same-turn (now (a .s)) (now (a .this)) (at .loop .i) (omega arith) (omega arith) (c .if2 .left))
 
--- src/words.rt:7:1
 returns-3 : tie.Need-returns-3 Inv-loop μ-loop
-returns-3 c = ?
+returns-3 c =
+    let at = c .before in
+    let a = at .before .before .args in
+    sym (at .loop .inv .2 ∙ same-done (now (a .s)) (now (a .this)) (at .loop .i) (c .loop-test .left) (at .loop .inv .1))
 
 pub is-spec : {M : Type 1} → statement M
 is-spec =

@@ -1,21 +1,16 @@
 use borrow.Author.Needs.{needs}
+use mathlib.Core.Path.{ap}
+use denote.Ref.{now}
+use lib.ListN.{take}
+use Rattle.text.proofs.Cutting.{cut-length}
 use Rattle.script.proofs.words.word.Statement.{statement}
 use Rattle.script.proofs.words.word.Tie as tie
-use Rattle.script.proofs.words.word.Reads as reads
-use Rattle.script.proofs.words.word.Lts as lts
-use Rattle.text.proofs.find.Reads as find-reads
 
--- src/words.rt:27:9
-find-requires : tie.Need-find-requires
-find-requires c κs = search needs
-
--- src/words.rt:28:5
 slice-aggregate-result : tie.Need-slice-aggregate-result
-slice-aggregate-result c = ?
+slice-aggregate-result c = cut-length 0x20 (now (c .before .before .before .args .s)) (c .before .find .result) (c .before .find .ensures)
 
--- src/words.rt:24:1
 returns : tie.Need-returns
-returns c = ?
+returns c = ap (λ n. take n (now (c .before .before .before .args .s))) (c .before .find .ensures)
 
 pub word-spec : {M : Type 1} → statement M
-word-spec = tie.close (tie.spec find-requires slice-aggregate-result returns)
+word-spec = tie.close (tie.spec (λ c κs. search needs) slice-aggregate-result returns)

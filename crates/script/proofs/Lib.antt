@@ -1,0 +1,4 @@
+pub mod Cuts
+pub mod Saying
+pub mod Naming
+pub mod Acting
