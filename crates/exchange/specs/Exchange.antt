@@ -31,12 +31,12 @@ abbrev pub heardOn : Till → Turn → (answer buffer : List ℕ) → Heard
 heardOn till turn answer buffer =
     record { said = saidOf till turn; answer = answer; buffer = sets buffer 0 (turn .puts) }
 
-abbrev pub onByte : (frame : List ℕ) → Till → (answer buffer : List ℕ) → ℕ → Heard
+unfoldable pub onByte : (frame : List ℕ) → Till → (answer buffer : List ℕ) → ℕ → Heard
 onByte frame till answer buffer b =
     let turn = turnOf till frame answer buffer (byte b) in
     heardOn till turn (heldIn answer (turn .state .pending)) buffer
 
-abbrev pub onTimeout : (frame : List ℕ) → Till → (answer buffer : List ℕ) → Heard
+unfoldable pub onTimeout : (frame : List ℕ) → Till → (answer buffer : List ℕ) → Heard
 onTimeout frame till answer buffer = heardOn till (turnOf till frame answer buffer timeout) answer buffer
 
 -- PROTOCOL 7.5: bytes up to the first of which it says another word than Waiting; what comes behind that one is not heard any more

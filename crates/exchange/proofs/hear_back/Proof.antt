@@ -1,64 +1,80 @@
+use borrow.Author.Needs.{needs}
+use Prim.Native.Nat.{_≤_, _-_}
+use mathlib.Core.Path.{_≡_, refl, sym, _∙_}
+use native.Mathlib.Omega.{arith}
+use denote.Ref.{now}
+use lib.ListN.{length, drop, getD}
+use borrow.Author.Tests.{not-true, not-false}
+use Rattle.exchange.specs.Exchange.{heardBack}
+use Rattle.exchange.proofs.Hearing.{byte-heard, timeout-heard, heard-all, heard-more, heard-word}
 use Rattle.exchange.proofs.hear_back.Statement.{statement}
 use Rattle.exchange.proofs.hear_back.Tie as tie
-use Rattle.exchange.proofs.hear_back.Reads as reads
-use Rattle.exchange.proofs.hear_back.Lts as lts
-use Rattle.exchange.proofs.is_waiting.Reads as is-waiting-reads
-use Rattle.till.proofs.byte.Reads as byte-reads
-use Rattle.till.proofs.timeout.Reads as timeout-reads
 
 abbrev Inv-loop : tie.InvT-loop
-Inv-loop frame answer₀ bytes buf₀ listening₀ i₀ answer buf listening i = ?
+Inv-loop frame answer₀ bytes buf₀ listening₀ i₀ answer buf listening i =
+    (i ≤ length bytes) × (length buf ≡ length buf₀) × (heardBack frame listening answer buf (drop i bytes) ≡ heardBack frame listening₀ answer₀ buf₀ bytes)
 
 abbrev μ-loop : tie.MeasureT-loop
-μ-loop frame answer₀ bytes buf₀ listening₀ i₀ answer buf listening i = ?
+μ-loop frame answer₀ bytes buf₀ listening₀ i₀ answer buf listening i = length bytes - i
 
--- src/lib.rt:36:5
 loop-holds : tie.Need-loop-holds Inv-loop μ-loop
-loop-holds c = ?
+loop-holds c = (omega arith, refl, refl)
 
--- src/lib.rt:37:57
 shared-slice-read-byte : tie.Need-shared-slice-read-byte Inv-loop μ-loop
-shared-slice-read-byte c = ?
+shared-slice-read-byte c = omega arith
 
--- src/lib.rt:37:13
-byte-requires : tie.Need-byte-requires Inv-loop μ-loop
-byte-requires c κs = ?
-
--- src/lib.rt:39:13
-is-waiting-requires : tie.Need-is-waiting-requires Inv-loop μ-loop
-is-waiting-requires c κs = ?
-
--- src/lib.rt:40:13
 same-length : tie.Need-same-length Inv-loop μ-loop
-same-length c = ?
+same-length c =
+    let call = c .before .before .before .before in
+    let at = call .before .before .before .before .before in
+    omega (arith, call .byte .ok, at .loop .inv .1)
 
--- src/lib.rt:40:13
 returns : tie.Need-returns Inv-loop μ-loop
-returns c = ?
+returns c =
+    let call = c .before .before .before .before in
+    let at = call .before .before .before .before .before in
+    let a = at .before .before .before .args in
+    let i = at .loop .i in
+    let bytes = now (a .bytes) in
+    let heard = byte-heard (now (a .frame)) (at .loop .listening) (at .loop .answer) (at .loop .buf) (getD bytes i 0) _ _ _ (call .byte .ensures .0) (call .byte .ensures .1 .0) (call .byte .ensures .1 .1) in
+    sym (heard-word (now (a .frame)) (at .loop .listening) (at .loop .answer) (at .loop .buf) bytes i (omega arith) _ heard (sym (c .before .is-waiting .ensures) ∙ not-true _ (c .if1 .taken)))
+    ∙ at .loop .inv .2
 
--- src/lib.rt:44:9
 add-i : tie.Need-add-i Inv-loop μ-loop
-add-i c = ?
+add-i c = omega arith
 
--- src/lib.rt:36:5
 loop-less : tie.Need-loop-less Inv-loop μ-loop
-loop-less c = ?
+loop-less c = omega arith
 
--- src/lib.rt:36:5
 loop-again : tie.Need-loop-again Inv-loop μ-loop
-loop-again c = ?
+loop-again c =
+    let test = c .before in
+    let call = test .before .before .before .before in
+    let at = call .before .before .before .before .before in
+    let a = at .before .before .before .args in
+    let i = at .loop .i in
+    let bytes = now (a .bytes) in
+    let heard = byte-heard (now (a .frame)) (at .loop .listening) (at .loop .answer) (at .loop .buf) (getD bytes i 0) _ _ _ (call .byte .ensures .0) (call .byte .ensures .1 .0) (call .byte .ensures .1 .1) in (
+      omega arith,
+      omega (arith, call .byte .ok, at .loop .inv .1),
+      sym (heard-more (now (a .frame)) (at .loop .listening) (at .loop .answer) (at .loop .buf) bytes i (omega arith) _ heard (sym (test .before .is-waiting .ensures) ∙ not-false _ (test .if1 .left)))
+          ∙ at .loop .inv .2,
+    )
 
--- src/lib.rt:46:5
-timeout-requires : tie.Need-timeout-requires Inv-loop μ-loop
-timeout-requires c κs = ?
-
--- src/lib.rt:25:1
 same-length-2 : tie.Need-same-length-2 Inv-loop μ-loop
-same-length-2 c = ?
+same-length-2 c =
+    let call = c .before .before in
+    omega (arith, call .timeout .ok, call .before .before .before .loop .inv .1)
 
--- src/lib.rt:25:1
 returns-2 : tie.Need-returns-2 Inv-loop μ-loop
-returns-2 c = ?
+returns-2 c =
+    let call = c .before .before in
+    let at = call .before .before .before in
+    let a = at .before .before .before .args in
+    let answer = at .loop .answer in
+    timeout-heard (now (a .frame)) (at .loop .listening) answer (at .loop .buf) _ _ (call .timeout .ensures .0 answer) (call .timeout .ensures .1 answer)
+    ∙ sym (heard-all (now (a .frame)) (at .loop .listening) answer (at .loop .buf) (now (a .bytes)) (at .loop .i) (call .before .before .loop-test .left))
+    ∙ at .loop .inv .2
 
 pub hear-back-spec : {M : Type 1} → statement M
 hear-back-spec =
@@ -68,13 +84,13 @@ hear-back-spec =
     μ-loop
     loop-holds
     shared-slice-read-byte
-    byte-requires
-    is-waiting-requires
+    (λ c κs. search needs)
+    (λ c κs. search needs)
     same-length
     returns
     add-i
     loop-less
     loop-again
-    timeout-requires
+    (λ c κs. search needs)
     same-length-2
     returns-2)
