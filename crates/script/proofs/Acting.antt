@@ -13,10 +13,10 @@ use Rattle.text.specs.Parts.{within}
 use Rattle.figures.specs.Numbers.{digitsOf}
 use Rattle.figures.specs.declared.Number.{Number}
 use Rattle.figures.specs.declared.Number.the-variants.{Is, NotOne}
-use Rattle.script.specs.Words.{bytes, same, word, behind}
-use Rattle.script.specs.Content.{saidIn, endOf, isPlain}
+use Rattle.writing.specs.Words.{bytes, same, word, behind}
+use Rattle.writing.specs.Content.{saidIn, endOf, isPlain}
 use Rattle.script.specs.Script.{saysNothing, namedIn, happensTo, numbered, commandWith, coded, actOf, contentOf}
-use Rattle.script.specs.declared.Stand.the-variants.{Plain}
+use Rattle.writing.specs.declared.Stand.the-variants.{Plain}
 use Rattle.script.specs.declared.Named.{Named}
 use Rattle.script.specs.declared.Named.the-variants.{Clear, Unclear}
 use Rattle.script.specs.declared.Act.{Act}

@@ -1,4 +1,2 @@
-pub mod Cuts
-pub mod Saying
 pub mod Naming
 pub mod Acting

@@ -11,7 +11,7 @@ use Rattle.figures.specs.Numbers.{digitsOf}
 use Rattle.figures.specs.declared.Number.{Number}
 use Rattle.figures.specs.declared.Number.the-variants.{Is, NotOne}
 use Rattle.faults.specs.declared.Fault.the-variants.{Becomes, Lost}
-use Rattle.script.specs.Words.{bytes, same, word, behind, digitOf}
+use Rattle.writing.specs.Words.{bytes, same, word, behind, digitOf}
 use Rattle.script.specs.Script.{replacing, becomesIn, namedIn}
 use Rattle.script.specs.declared.Named.the-variants.{Clear, Unclear}
 

@@ -9,9 +9,9 @@ use Rattle.figures.specs.Numbers.{digitsOf}
 use Rattle.figures.specs.declared.Number.{Number}
 use Rattle.figures.specs.declared.Number.the-variants.{Is, NotOne}
 use Rattle.faults.specs.declared.Fault.the-variants.{Becomes, Lost}
-use Rattle.script.specs.Words.{is, word, behind, digitOf}
-use Rattle.script.specs.Content.{saidIn, endOf, isPlain}
-use Rattle.script.specs.declared.Stand.the-variants.{Plain}
+use Rattle.writing.specs.Words.{is, word, behind, digitOf}
+use Rattle.writing.specs.Content.{saidIn, endOf, isPlain}
+use Rattle.writing.specs.declared.Stand.the-variants.{Plain}
 use Rattle.script.specs.declared.Named.{Named}
 use Rattle.script.specs.declared.Named.the-variants.{Clear, Unclear}
 use Rattle.script.specs.declared.Act.{Act}

@@ -1,18 +1,17 @@
 // A line of a script, read (docs/SCRIPTS.md): a command with its data, or what happens on the line to a try or to its answer.
-mod content;
-mod words;
-
 use basics::least_size;
 use faults::Fault;
 use figures::Number;
-use words::behind;
-use words::digit;
-use words::is;
-use words::word;
+use writing::content::is_plain;
+use writing::content::unescape;
+use writing::words::behind;
+use writing::words::digit;
+use writing::words::is;
+use writing::words::word;
 ghost use mathlib.Core.Path.{_≡_};
 ghost use lib.ListN.{length};
 ghost use lib.Seq.{sets};
-ghost use Rattle.script.specs.Words.{behind as behindOf};
+ghost use Rattle.writing.specs.Words.{behind as behindOf};
 ghost use Rattle.script.specs.Script.{saysNothing, replacing, becomesIn, namedIn, happensTo, numbered, commandWith, coded, actOf, contentOf};
 
 // The most data bytes of a command in a script.
@@ -37,21 +36,6 @@ pub enum Act {
 pub enum Named {
     Clear(Fault),
     Unclear,
-}
-
-// Where reading of data stands: at a byte for itself, behind `\`, behind `\x`, behind `\x` and a digit; or what came is no data.
-pub enum Stand {
-    Plain,
-    Escape,
-    High,
-    Low(u8),
-    Spoilt,
-}
-
-// What a byte of data, as it is written, says: a byte, or none yet.
-pub enum Step {
-    Says(u8),
-    GoesTo(Stand),
 }
 
 // One line, without its line feed. The data of a command goes to the front of `buf`.
@@ -172,15 +156,15 @@ fn command_with(code: u8, s: &[u8], buf: &mut [u8]) -> Act
     ensures { λ r. ⌜ now (buf .exit) ≡ sets (now (buf .entry)) 0 (contentOf r (now (s .entry))) ⌝ }
 {
     let mut none = [0u8; 1];
-    let read = content::unescape(s, &mut none);
+    let read = unescape(s, &mut none);
     let stand = read.stand;
-    if !content::is_plain(stand) {
+    if !is_plain(stand) {
         return Act::Wrong(2);
     }
     if least_size(MOST_CONTENT, buf.len()) < read.count {
         return Act::Wrong(3);
     }
-    content::unescape(s, buf);
+    unescape(s, buf);
     Act::Command {
         code,
         count: read.count,

@@ -3,7 +3,7 @@ use mathlib.Core.Path.{refl, sym, ap, _∙_}
 use native.Mathlib.Omega.{arith}
 use denote.Ref.{now}
 use borrow.Author.Tests.{not-true, not-false}
-use Rattle.script.specs.Content.{isPlain}
+use Rattle.writing.specs.Content.{isPlain}
 use Rattle.script.specs.declared.Act.the-variants.{Command}
 use Rattle.script.proofs.Acting.{no-escape, too-long, all-said}
 use Rattle.script.proofs.command_with.Statement.{statement}
