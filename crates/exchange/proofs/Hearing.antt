@@ -10,7 +10,8 @@ use Rattle.till.specs.Turns.{Turn, byte, timeout}
 use Rattle.till.specs.Fields.{heldIn, saidOf, turnOf}
 use Rattle.till.specs.declared.Till.{Till}
 use Rattle.till.specs.declared.Said.{Said}
-use Rattle.exchange.specs.Exchange.{Heard, waits, heardOn, onByte, onTimeout, heardBack}
+use Rattle.till.specs.declared.Word.the-variants.{Waiting}
+use Rattle.exchange.specs.Exchange.{Heard, waits, heardOn, onByte, onTimeout, inTime, heardSome}
 
 -- what one event leaves, put together of its parts
 event-heard : (till : Till) (turn : Turn) (buffer kept : List ℕ) (said : Said) (answer after : List ℕ)
@@ -37,26 +38,35 @@ module _ (frame : List ℕ) (till : Till) (answer buffer : List ℕ) where
   timeout-heard said after s e = event-heard till (turnOf till frame answer buffer timeout) buffer answer said answer after s refl e
 
   module _ (bytes : List ℕ) (i : ℕ) where
-    pub heard-all : length bytes ≤ i → heardBack frame till answer buffer (drop i bytes) ≡ onTimeout frame till answer buffer
-    unfolding heardBack
-    heard-all h = ap (heardBack frame till answer buffer) (drop-of-length-le bytes h)
+    pub heard-all : length bytes ≤ i
+        → heardSome frame till answer buffer (drop i bytes) ≡ record { said = record { till = till; word = Waiting 0 }; answer = answer; buffer = buffer }
+    unfolding heardSome
+    heard-all h = ap (heardSome frame till answer buffer) (drop-of-length-le bytes h)
 
     module _ (inside : i < length bytes) (h : Heard) (e : h ≡ onByte frame till answer buffer (getD bytes i 0)) where
       next : drop i bytes ≡ getD bytes i 0 ∷ drop (i + 1) bytes
       next = rw add-one (drop-cons bytes i 0 inside)
 
-      heard-byte : heardBack frame till answer buffer (drop i bytes)
-          ≡ cond (waits (h .said .word)) (heardBack frame (h .said .till) (h .answer) (h .buffer) (drop (i + 1) bytes)) h
-      unfolding heardBack
+      heard-byte : heardSome frame till answer buffer (drop i bytes)
+          ≡ cond (waits (h .said .word)) (heardSome frame (h .said .till) (h .answer) (h .buffer) (drop (i + 1) bytes)) h
+      unfolding heardSome
       heard-byte =
-          ap (heardBack frame till answer buffer) next
-          ∙ ap (λ x. cond (waits (x .said .word)) (heardBack frame (x .said .till) (x .answer) (x .buffer) (drop (i + 1) bytes)) x) (sym e)
+          ap (heardSome frame till answer buffer) next
+          ∙ ap (λ x. cond (waits (x .said .word)) (heardSome frame (x .said .till) (x .answer) (x .buffer) (drop (i + 1) bytes)) x) (sym e)
 
       pub heard-more : waits (h .said .word) ≡ true
-          → heardBack frame till answer buffer (drop i bytes) ≡ heardBack frame (h .said .till) (h .answer) (h .buffer) (drop (i + 1) bytes)
+          → heardSome frame till answer buffer (drop i bytes) ≡ heardSome frame (h .said .till) (h .answer) (h .buffer) (drop (i + 1) bytes)
       heard-more t =
-          heard-byte ∙ ap (λ b. cond b (heardBack frame (h .said .till) (h .answer) (h .buffer) (drop (i + 1) bytes)) h) t
+          heard-byte ∙ ap (λ b. cond b (heardSome frame (h .said .till) (h .answer) (h .buffer) (drop (i + 1) bytes)) h) t
 
-      pub heard-word : waits (h .said .word) ≡ false → heardBack frame till answer buffer (drop i bytes) ≡ h
+      pub heard-word : waits (h .said .word) ≡ false → heardSome frame till answer buffer (drop i bytes) ≡ h
       heard-word t =
-          heard-byte ∙ ap (λ b. cond b (heardBack frame (h .said .till) (h .answer) (h .buffer) (drop (i + 1) bytes)) h) t
+          heard-byte ∙ ap (λ b. cond b (heardSome frame (h .said .till) (h .answer) (h .buffer) (drop (i + 1) bytes)) h) t
+
+-- the word that came in time, or else the timeout
+module _ (frame : List ℕ) (whole h : Heard) (e : h ≡ whole) where
+  pub came-in-time : waits (h .said .word) ≡ false → h ≡ inTime frame whole
+  came-in-time t = sym (ap (λ b. cond b (onTimeout frame (h .said .till) (h .answer) (h .buffer)) h) t) ∙ ap (inTime frame) e
+
+  pub none-in-time : waits (h .said .word) ≡ true → onTimeout frame (h .said .till) (h .answer) (h .buffer) ≡ inTime frame whole
+  none-in-time t = sym (ap (λ b. cond b (onTimeout frame (h .said .till) (h .answer) (h .buffer)) h) t) ∙ ap (inTime frame) e

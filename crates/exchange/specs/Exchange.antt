@@ -1,4 +1,4 @@
--- PROTOCOL 7.1, 7.5: the till end hears what came back on a try, byte by byte, and where it waits still behind the last, no more comes in time.
+-- PROTOCOL 7.1, 7.5: the till end hears what comes back on a try, byte by byte.
 use Prim.Native.Nat.{ℕ}
 use mathlib.Core.Bool.{Bool, true, false, cond}
 use mathlib.Core.List.{List, [], _∷_}
@@ -39,9 +39,16 @@ onByte frame till answer buffer b =
 unfoldable pub onTimeout : (frame : List ℕ) → Till → (answer buffer : List ℕ) → Heard
 onTimeout frame till answer buffer = heardOn till (turnOf till frame answer buffer timeout) answer buffer
 
--- PROTOCOL 7.5: bytes up to the first of which it says another word than Waiting; what comes behind that one is not heard any more
-unfoldable pub heardBack : (frame : List ℕ) → Till → (answer buffer : List ℕ) → List ℕ → Heard
-heardBack frame till answer buffer [] = onTimeout frame till answer buffer
-heardBack frame till answer buffer (b ∷ bs) =
+-- PROTOCOL 7.5: bytes up to the first of which it says another word than Waiting; those behind that one are not heard. A till end that has heard none waits
+unfoldable pub heardSome : (frame : List ℕ) → Till → (answer buffer : List ℕ) → List ℕ → Heard
+heardSome frame till answer buffer [] = record { said = record { till = till; word = Waiting 0 }; answer = answer; buffer = buffer }
+heardSome frame till answer buffer (b ∷ bs) =
     let h = onByte frame till answer buffer b in
-    cond (waits (h .said .word)) (heardBack frame (h .said .till) (h .answer) (h .buffer) bs) h
+    cond (waits (h .said .word)) (heardSome frame (h .said .till) (h .answer) (h .buffer) bs) h
+
+-- PROTOCOL 7.5: all that comes back on a try: where it waits still behind the last byte, no more come in time
+abbrev pub inTime : (frame : List ℕ) → Heard → Heard
+inTime frame h = cond (waits (h .said .word)) (onTimeout frame (h .said .till) (h .answer) (h .buffer)) h
+
+abbrev pub heardBack : (frame : List ℕ) → Till → (answer buffer : List ℕ) → List ℕ → Heard
+heardBack frame till answer buffer bytes = inTime frame (heardSome frame till answer buffer bytes)

@@ -4,7 +4,7 @@ use till::Said;
 use till::Till;
 use till::Word;
 ghost use mathlib.Core.Path.{_≡_};
-ghost use Rattle.exchange.specs.Exchange.{waits, heardBack};
+ghost use Rattle.exchange.specs.Exchange.{waits, heardSome, heardBack};
 
 // Whether the till end waits still.
 pub fn is_waiting(word: Word) -> bool
@@ -21,15 +21,15 @@ pub fn is_waiting(word: Word) -> bool
     }
 }
 
-// All bytes that came back, up to the first of which the till end says another word than Waiting; where none is, no more come in time.
-pub fn hear_back(
+// Some bytes from the line, up to the first of which the till end says another word than Waiting.
+pub fn hear_some(
     till: Till,
     frame: &[u8; FRAME_ROOM],
     answer: &mut [u8; FRAME_ROOM],
     bytes: &[u8],
     buf: &mut [u8],
 ) -> Said
-    ensures { λ r. ⌜ record { said = r; answer = now (answer .exit); buffer = now (buf .exit) } ≡ heardBack (now (frame .entry)) till (now (answer .entry)) (now (buf .entry)) (now (bytes .entry)) ⌝ }
+    ensures { λ r. ⌜ record { said = r; answer = now (answer .exit); buffer = now (buf .exit) } ≡ heardSome (now (frame .entry)) till (now (answer .entry)) (now (buf .entry)) (now (bytes .entry)) ⌝ }
 {
     let mut listening = till;
     let mut i = 0;
@@ -43,5 +43,27 @@ pub fn hear_back(
         listening = next;
         i += 1;
     }
-    till::timeout(listening, frame, buf)
+    Said {
+        till: listening,
+        word: Word::Waiting(0),
+    }
+}
+
+// All bytes that come back on a try. Where the till end waits still behind the last, no more come in time.
+pub fn hear_back(
+    till: Till,
+    frame: &[u8; FRAME_ROOM],
+    answer: &mut [u8; FRAME_ROOM],
+    bytes: &[u8],
+    buf: &mut [u8],
+) -> Said
+    ensures { λ r. ⌜ record { said = r; answer = now (answer .exit); buffer = now (buf .exit) } ≡ heardBack (now (frame .entry)) till (now (answer .entry)) (now (buf .entry)) (now (bytes .entry)) ⌝ }
+{
+    let said = hear_some(till, frame, answer, bytes, buf);
+    let word = said.word;
+    if !is_waiting(word) {
+        return said;
+    }
+    let waiting = said.till;
+    till::timeout(waiting, frame, buf)
 }

@@ -1,96 +1,38 @@
 use borrow.Author.Needs.{needs}
-use Prim.Native.Nat.{_≤_, _-_}
-use mathlib.Core.Path.{_≡_, refl, sym, _∙_}
-use native.Mathlib.Omega.{arith}
+use mathlib.Core.Path.{sym, _∙_}
 use denote.Ref.{now}
-use lib.ListN.{length, drop, getD}
 use borrow.Author.Tests.{not-true, not-false}
-use Rattle.exchange.specs.Exchange.{heardBack}
-use Rattle.exchange.proofs.Hearing.{byte-heard, timeout-heard, heard-all, heard-more, heard-word}
+use Rattle.exchange.specs.Exchange.{heardSome}
+use Rattle.exchange.proofs.Hearing.{timeout-heard, came-in-time, none-in-time}
 use Rattle.exchange.proofs.hear_back.Statement.{statement}
 use Rattle.exchange.proofs.hear_back.Tie as tie
 
-abbrev Inv-loop : tie.InvT-loop
-Inv-loop frame answer₀ bytes buf₀ listening₀ i₀ answer buf listening i =
-    (i ≤ length bytes) × (length buf ≡ length buf₀) × (heardBack frame listening answer buf (drop i bytes) ≡ heardBack frame listening₀ answer₀ buf₀ bytes)
-
-abbrev μ-loop : tie.MeasureT-loop
-μ-loop frame answer₀ bytes buf₀ listening₀ i₀ answer buf listening i = length bytes - i
-
-loop-holds : tie.Need-loop-holds Inv-loop μ-loop
-loop-holds c = (omega arith, refl, refl)
-
-shared-slice-read-byte : tie.Need-shared-slice-read-byte Inv-loop μ-loop
-shared-slice-read-byte c = omega arith
-
-same-length : tie.Need-same-length Inv-loop μ-loop
-same-length c =
-    let call = c .before .before .before .before in
-    let at = call .before .before .before .before .before in
-    omega (arith, call .byte .ok, at .loop .inv .1)
-
-returns : tie.Need-returns Inv-loop μ-loop
+returns : tie.Need-returns
 returns c =
     let call = c .before .before .before .before in
-    let at = call .before .before .before .before .before in
-    let a = at .before .before .before .args in
-    let i = at .loop .i in
-    let bytes = now (a .bytes) in
-    let heard = byte-heard (now (a .frame)) (at .loop .listening) (at .loop .answer) (at .loop .buf) (getD bytes i 0) _ _ _ (call .byte .ensures .0) (call .byte .ensures .1 .0) (call .byte .ensures .1 .1) in
-    sym (heard-word (now (a .frame)) (at .loop .listening) (at .loop .answer) (at .loop .buf) bytes i (omega arith) _ heard (sym (c .before .is-waiting .ensures) ∙ not-true _ (c .if1 .taken)))
-    ∙ at .loop .inv .2
+    let a = call .before .before .before .before .before .args in
+    came-in-time (now (a .frame)) (heardSome (now (a .frame)) (a .till) (now (a .answer)) (now (a .buf)) (now (a .bytes))) _ (call .hear-some .ensures) (sym (c .before .is-waiting .ensures) ∙ not-true _ (c .if1 .taken))
 
-add-i : tie.Need-add-i Inv-loop μ-loop
-add-i c = omega arith
-
-loop-less : tie.Need-loop-less Inv-loop μ-loop
-loop-less c = omega arith
-
-loop-again : tie.Need-loop-again Inv-loop μ-loop
-loop-again c =
-    let test = c .before in
-    let call = test .before .before .before .before in
-    let at = call .before .before .before .before .before in
-    let a = at .before .before .before .args in
-    let i = at .loop .i in
-    let bytes = now (a .bytes) in
-    let heard = byte-heard (now (a .frame)) (at .loop .listening) (at .loop .answer) (at .loop .buf) (getD bytes i 0) _ _ _ (call .byte .ensures .0) (call .byte .ensures .1 .0) (call .byte .ensures .1 .1) in (
-      omega arith,
-      omega (arith, call .byte .ok, at .loop .inv .1),
-      sym (heard-more (now (a .frame)) (at .loop .listening) (at .loop .answer) (at .loop .buf) bytes i (omega arith) _ heard (sym (test .before .is-waiting .ensures) ∙ not-false _ (test .if1 .left)))
-          ∙ at .loop .inv .2,
-    )
-
-same-length-2 : tie.Need-same-length-2 Inv-loop μ-loop
-same-length-2 c =
-    let call = c .before .before in
-    omega (arith, call .timeout .ok, call .before .before .before .loop .inv .1)
-
-returns-2 : tie.Need-returns-2 Inv-loop μ-loop
+returns-2 : tie.Need-returns-2
 returns-2 c =
-    let call = c .before .before in
-    let at = call .before .before .before in
-    let a = at .before .before .before .args in
-    let answer = at .loop .answer in
-    timeout-heard (now (a .frame)) (at .loop .listening) answer (at .loop .buf) _ _ (call .timeout .ensures .0 answer) (call .timeout .ensures .1 answer)
-    ∙ sym (heard-all (now (a .frame)) (at .loop .listening) answer (at .loop .buf) (now (a .bytes)) (at .loop .i) (call .before .before .loop-test .left))
-    ∙ at .loop .inv .2
+    let out = c .before .before in
+    let test = out .before .before .before in
+    let call = test .before .before .before .before in
+    let a = call .before .before .before .before .before .args in
+    let waiting = call .hear-some .result .till in
+    let held = call .hear-some .last .1 .1 .0 in
+    let buffer = call .hear-some .last .1 .1 .1 .1 .0 in
+    timeout-heard (now (a .frame)) waiting held buffer _ _ (out .timeout .ensures .0 held) (out .timeout .ensures .1 held)
+    ∙ none-in-time (now (a .frame)) (heardSome (now (a .frame)) (a .till) (now (a .answer)) (now (a .buf)) (now (a .bytes))) _ (call .hear-some .ensures) (sym (test .before .is-waiting .ensures) ∙ not-false _ (test .if1 .left))
 
 pub hear-back-spec : {M : Type 1} → statement M
 hear-back-spec =
     tie.close
     (tie.spec
-    Inv-loop
-    μ-loop
-    loop-holds
-    shared-slice-read-byte
     (λ c κs. search needs)
     (λ c κs. search needs)
-    same-length
+    (λ c. search needs)
     returns
-    add-i
-    loop-less
-    loop-again
     (λ c κs. search needs)
-    same-length-2
+    (λ c. search needs)
     returns-2)
