@@ -1,12 +1,12 @@
-// The till end, the device and the line between them (PROTOCOL 7.5, 9.1).
+// The till end, the device and the line between them (PROTOCOL 7.5, 9.1). All that they hold goes from hand to hand by value.
 use crate::telling;
+use books::Books;
 use device::Kept;
 use device::KeptHearing;
 use faults::Fault;
 use faults::Faults;
 use line::Call;
 use reader::FRAME_ROOM;
-use till::Said;
 use till::Till;
 use till::Word;
 use wire::ANSWER_ROOM;
@@ -15,7 +15,22 @@ use wire::ANSWER_ROOM;
 const TRIES: u8 = 5;
 
 // More than the device can give back on one try.
-const BACK_ROOM: usize = 4096;
+const BACK_ROOM: usize = 1024;
+
+// The till end with its two arrays and its buffer.
+pub struct Desk {
+    till: Till,
+    sent: [u8; FRAME_ROOM],
+    answer: [u8; FRAME_ROOM],
+    buf: [u8; FRAME_ROOM],
+}
+
+// The device with its sheet and its two arrays.
+pub struct Printer {
+    kept: Kept,
+    frame: [u8; FRAME_ROOM],
+    last: [u8; ANSWER_ROOM],
+}
 
 // How many commands were answered, ended unfinished, could not be sent, and were carried out.
 pub struct Tally {
@@ -27,10 +42,16 @@ pub struct Tally {
 
 // Both ends, what happens to the tries of the next command, and what was counted.
 pub struct Table {
-    pub till: Till,
-    pub kept: Kept,
+    pub desk: Desk,
+    pub printer: Printer,
     pub faults: Faults,
     pub tally: Tally,
+}
+
+// The till end, and what it says.
+struct Spoken {
+    desk: Desk,
+    word: Word,
 }
 
 // The table behind a try, and what the till end says.
@@ -39,10 +60,11 @@ struct Tried {
     word: Word,
 }
 
-// What the device made of a try so far: the place of its next byte, how many bytes were given back, how many commands carried out.
+// What the device made of a try so far: the place of its next byte, what it gave back, and how many commands it carried out.
 struct Heard {
-    kept: Kept,
+    printer: Printer,
     place: usize,
+    back: [u8; BACK_ROOM],
     count: usize,
     carried: u64,
 }
@@ -52,8 +74,17 @@ pub fn fresh() -> Table {
     let kept = device::fresh_kept();
     let faults = faults::none();
     Table {
-        till,
-        kept,
+        desk: Desk {
+            till,
+            sent: [0u8; FRAME_ROOM],
+            answer: [0u8; FRAME_ROOM],
+            buf: [0u8; FRAME_ROOM],
+        },
+        printer: Printer {
+            kept,
+            frame: [0u8; FRAME_ROOM],
+            last: [0u8; ANSWER_ROOM],
+        },
         faults,
         tally: Tally {
             answered: 0,
@@ -64,73 +95,62 @@ pub fn fresh() -> Table {
     }
 }
 
+// What the device's books hold.
+pub fn books_in(table: Table) -> Books {
+    let printer = table.printer;
+    let kept = printer.kept;
+    let device = kept.device;
+    device.books
+}
+
 // One fault more to the next command.
 pub fn with_fault(table: Table, answer: bool, attempt: u8, fault: Fault) -> Table {
-    let till = table.till;
-    let kept = table.kept;
+    let mut more = table;
     let faults = faults::with_fault(table.faults, answer, attempt, fault);
-    let tally = table.tally;
-    Table {
-        till,
-        kept,
-        faults,
-        tally,
-    }
+    more.faults = faults;
+    more
 }
 
 // A command from its first try to Answered, Unfinished or cannot be sent. The faults are gone with it.
-pub fn run(
-    table: Table,
-    code: u8,
-    content: &[u8],
-    sent: &mut [u8; FRAME_ROOM],
-    answer: &mut [u8; FRAME_ROOM],
-    frame: &mut [u8; FRAME_ROOM],
-    last: &mut [u8; ANSWER_ROOM],
-) -> Table {
-    let mut buf = [0u8; FRAME_ROOM];
-    let said = till::command(table.till, sent, code, content, &mut buf);
-    let word = said.word;
-    let till = said.till;
-    let kept = table.kept;
-    let faults = table.faults;
-    let tally = table.tally;
-    let begun = Table {
-        till,
-        kept,
-        faults,
-        tally,
-    };
+pub fn run(table: Table, code: u8, content: &[u8]) -> Table {
+    let spoken = command(table.desk, code, content);
+    let word = spoken.word;
+    let desk = spoken.desk;
+    let mut begun = table;
+    begun.desk = desk;
     if !exchange::is_waiting(word) {
         telling::unsent();
         return finished(begun, word);
     }
-    tries(
-        begun,
-        till::count(word),
-        sent,
-        answer,
-        frame,
-        last,
-        &mut buf,
-    )
+    tries(begun, till::count(word))
+}
+
+// The till end is told of a command.
+fn command(desk: Desk, code: u8, content: &[u8]) -> Spoken {
+    let mut sent = desk.sent;
+    let mut buf = desk.buf;
+    let said = till::command(desk.till, &mut sent, code, content, &mut buf);
+    let till = said.till;
+    let word = said.word;
+    let answer = desk.answer;
+    Spoken {
+        desk: Desk {
+            till,
+            sent,
+            answer,
+            buf,
+        },
+        word,
+    }
 }
 
 // Try after try, as long as the till end says Send again.
-fn tries(
-    begun: Table,
-    first: usize,
-    sent: &mut [u8; FRAME_ROOM],
-    answer: &mut [u8; FRAME_ROOM],
-    frame: &mut [u8; FRAME_ROOM],
-    last: &mut [u8; ANSWER_ROOM],
-    buf: &mut [u8; FRAME_ROOM],
-) -> Table {
+fn tries(begun: Table, first: usize) -> Table {
     let mut table = begun;
     let mut count = first;
     let mut n: u8 = 1;
     while n <= TRIES {
-        let tried = attempt(table, n, count, sent, answer, frame, last, buf);
+        let tried = attempt(table, n, count);
         let word = tried.word;
         let after = tried.table;
         table = after;
@@ -144,104 +164,89 @@ fn tries(
 }
 
 // One try: the frame on the line, the device, its answer on the line, the till end.
-fn attempt(
-    table: Table,
-    n: u8,
-    count: usize,
-    sent: &[u8; FRAME_ROOM],
-    answer: &mut [u8; FRAME_ROOM],
-    frame: &mut [u8; FRAME_ROOM],
-    last: &mut [u8; ANSWER_ROOM],
-    buf: &mut [u8],
-) -> Tried {
-    let mut back = [0u8; BACK_ROOM];
-    let kept = table.kept;
-    let faults = table.faults;
-    let there = faults::fault_of(faults, false, n);
+fn attempt(table: Table, n: u8, count: usize) -> Tried {
+    let there = faults::fault_of(table.faults, false, n);
     telling::sends(n, count, there);
-    let heard = deliver(kept, front(buf, count), there, frame, last, &mut back);
-    let here = faults::fault_of(faults, true, n);
+    let heard = deliver(table.printer, table.desk, count, there);
+    let here = faults::fault_of(table.faults, true, n);
     telling::answers(n, heard.count, here);
-    let till = table.till;
-    let said = bring_back(till, &back, heard.count, here, sent, answer, buf);
-    let word = said.word;
-    let next = said.till;
-    telling::says(word, buf);
+    let spoken = bring_back(table.desk, heard, here);
+    let word = spoken.word;
+    let desk = spoken.desk;
+    says(desk, word);
     Tried {
-        table: behind(table, next, heard),
+        table: behind(table, desk, heard),
         word,
     }
 }
 
+fn says(desk: Desk, word: Word) {
+    let buf = desk.buf;
+    telling::says(word, &buf);
+}
+
 // What arrives of a frame is heard by the device.
-fn deliver(
-    kept: Kept,
-    bytes: &[u8],
-    fault: Fault,
-    frame: &mut [u8; FRAME_ROOM],
-    last: &mut [u8; ANSWER_ROOM],
-    back: &mut [u8],
-) -> Heard {
+fn deliver(printer: Printer, desk: Desk, count: usize, fault: Fault) -> Heard {
     let mut arrived = [0u8; FRAME_ROOM];
-    let got = faults::arrive(bytes, fault, &mut arrived);
-    hear(kept, front(&arrived, got), frame, last, back)
+    let buf = desk.buf;
+    let got = faults::arrive(front(&buf, count), fault, &mut arrived);
+    hear(printer, front(&arrived, got))
 }
 
 // What arrives of what the device gave back is heard by the till end.
-fn bring_back(
-    till: Till,
-    back: &[u8],
-    given: usize,
-    fault: Fault,
-    sent: &[u8; FRAME_ROOM],
-    answer: &mut [u8; FRAME_ROOM],
-    buf: &mut [u8],
-) -> Said {
+fn bring_back(desk: Desk, heard: Heard, fault: Fault) -> Spoken {
     let mut came = [0u8; BACK_ROOM];
-    let got = faults::arrive(front(back, given), fault, &mut came);
-    exchange::hear_back(till, sent, answer, front(&came, got), buf)
-}
-
-// The table behind a try.
-fn behind(table: Table, till: Till, heard: Heard) -> Table {
-    let kept = heard.kept;
-    let faults = table.faults;
-    let tally = table.tally;
-    Table {
-        till,
-        kept,
-        faults,
-        tally: Tally {
-            answered: tally.answered,
-            unfinished: tally.unfinished,
-            unsent: tally.unsent,
-            carried: more(tally.carried, heard.carried),
+    let back = heard.back;
+    let got = faults::arrive(front(&back, heard.count), fault, &mut came);
+    let sent = desk.sent;
+    let mut answer = desk.answer;
+    let mut buf = [0u8; FRAME_ROOM];
+    let said = exchange::hear_back(desk.till, &sent, &mut answer, front(&came, got), &mut buf);
+    let till = said.till;
+    let word = said.word;
+    Spoken {
+        desk: Desk {
+            till,
+            sent,
+            answer,
+            buf,
         },
+        word,
     }
 }
 
-// The table behind a command: it is counted, and the line does nothing more.
-fn finished(table: Table, word: Word) -> Table {
-    let till = table.till;
-    let kept = table.kept;
-    let faults = faults::none();
-    let tally = count(table.tally, word);
+// The table behind a try.
+fn behind(table: Table, desk: Desk, heard: Heard) -> Table {
+    let printer = heard.printer;
+    let faults = table.faults;
+    let mut tally = table.tally;
+    tally.carried = more(tally.carried, heard.carried);
     Table {
-        till,
-        kept,
+        desk,
+        printer,
         faults,
         tally,
     }
 }
 
-fn count(tally: Tally, word: Word) -> Tally {
-    let mut counted = tally;
+// The table behind a command: it is counted, and the line does nothing more.
+fn finished(table: Table, word: Word) -> Table {
+    let mut after = table;
+    let faults = faults::none();
+    let tally = counted(table.tally, word);
+    after.faults = faults;
+    after.tally = tally;
+    after
+}
+
+fn counted(tally: Tally, word: Word) -> Tally {
+    let mut after = tally;
     match word {
-        Word::Answered(_) => counted.answered = more(counted.answered, 1),
-        Word::Unfinished(_) => counted.unfinished = more(counted.unfinished, 1),
-        _ => counted.unsent = more(counted.unsent, 1),
+        Word::Answered(_) => after.answered = more(tally.answered, 1),
+        Word::Unfinished(_) => after.unfinished = more(tally.unfinished, 1),
+        _ => after.unsent = more(tally.unsent, 1),
     }
-    counted
+    after
 }
 
 // A sum, which stops at the largest number there is.
@@ -252,20 +257,15 @@ fn more(a: u64, b: u64) -> u64 {
     a + b
 }
 
-// The device hears what arrived, call by call. What it gives back goes to the front of `back`.
-fn hear(
-    kept: Kept,
-    bytes: &[u8],
-    frame: &mut [u8; FRAME_ROOM],
-    last: &mut [u8; ANSWER_ROOM],
-    back: &mut [u8],
-) -> Heard {
+// The device hears what arrived, call by call.
+fn hear(printer: Printer, bytes: &[u8]) -> Heard {
     if bytes.len() == 0 {
         telling::silence();
     }
     let mut heard = Heard {
-        kept,
+        printer,
         place: 0,
+        back: [0u8; BACK_ROOM],
         count: 0,
         carried: 0,
     };
@@ -274,43 +274,51 @@ fn hear(
         if bytes.len() <= heard.place {
             return heard;
         }
-        heard = hear_more(heard, bytes, frame, last, back);
+        heard = hear_more(heard, bytes);
         calls -= 1;
     }
     heard
 }
 
 // One call: the bytes up to the first that asks for something.
-fn hear_more(
-    heard: Heard,
-    bytes: &[u8],
-    frame: &mut [u8; FRAME_ROOM],
-    last: &mut [u8; ANSWER_ROOM],
-    back: &mut [u8],
-) -> Heard {
+fn hear_more(heard: Heard, bytes: &[u8]) -> Heard {
     let mut buf = [0u8; ANSWER_ROOM];
-    let kept = heard.kept;
+    let printer = heard.printer;
+    let kept = printer.kept;
     let device = kept.device;
     let sheet = kept.sheet;
-    let called = device::hear_kept(device, frame, last, &mut buf, sheet, bytes, heard.place);
+    let mut frame = printer.frame;
+    let mut last = printer.last;
+    let place = heard.place;
+    let called = device::hear_kept(device, &mut frame, &mut last, &mut buf, sheet, bytes, place);
     telling::call(called.hearing);
-    noted(heard, called, &buf, back)
+    noted(heard, called, frame, last, buf)
 }
 
 // What one call gave back goes behind what the ones before gave.
-fn noted(heard: Heard, called: KeptHearing, buf: &[u8], back: &mut [u8]) -> Heard {
+fn noted(
+    heard: Heard,
+    called: KeptHearing,
+    frame: [u8; FRAME_ROOM],
+    last: [u8; ANSWER_ROOM],
+    buf: [u8; ANSWER_ROOM],
+) -> Heard {
     let hearing = called.hearing;
     let given = hearing.given;
     let call = hearing.call;
     let sheet = called.sheet;
     let device = given.device;
-    let count = basics::least_size(given.count, buf.len());
-    let at = basics::least_size(heard.count, back.len());
-    text::put_bytes(back, at, front(buf, count));
+    let mut back = heard.back;
+    text::put_bytes(&mut back, heard.count, front(&buf, given.count));
     Heard {
-        kept: Kept { device, sheet },
+        printer: Printer {
+            kept: Kept { device, sheet },
+            frame,
+            last,
+        },
         place: further(heard.place, hearing.taken),
-        count: basics::least_size(at + count, back.len()),
+        back,
+        count: further(heard.count, given.count),
         carried: more(heard.carried, carried_by(call)),
     }
 }

