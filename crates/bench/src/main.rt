@@ -1,14 +1,12 @@
 // Both ends on one table: a script on standard input (docs/SCRIPTS.md), a till end, a fresh device, and a line between them that does to
 // tries and answers what the script says. It tells what each of them does.
-mod closing;
-mod ends;
 mod errors;
-mod telling;
 
-use ends::Table;
 use libc::STDIN_FILENO;
 use script::Act;
 use script::MOST_CONTENT;
+use table::Table;
+use telling::front;
 
 // The longest line of a script.
 const LINE_ROOM: usize = 1200;
@@ -29,7 +27,7 @@ struct Played {
 
 // Lines are read one by one to the end of the input, so that they may be typed.
 fn main() {
-    let mut table = ends::fresh();
+    let mut table = table::fresh();
     let mut lines: u64 = 0;
     while lines < 0xFFFFFFFFFFFFFFFF {
         lines += 1;
@@ -95,7 +93,7 @@ fn ended(got: isize, count: usize) -> bool {
 fn play(table: Table, line: Line) -> Played {
     let mut content = [0u8; MOST_CONTENT];
     let bytes = line.bytes;
-    let act = script::read_line(ends::front(&bytes, line.count), &mut content);
+    let act = script::read_line(front(&bytes, line.count), &mut content);
     match act {
         Act::Nothing => Played { table, wrong: 0 },
         Act::Wrong(why) => Played { table, wrong: why },
@@ -104,13 +102,13 @@ fn play(table: Table, line: Line) -> Played {
             attempt,
             fault,
         } => Played {
-            table: ends::with_fault(table, answer, attempt, fault),
+            table: table::with_fault(table, answer, attempt, fault),
             wrong: 0,
         },
         Act::Command { code, count } => {
-            telling::heading(code, ends::front(&bytes, line.count));
+            telling::heading(code, front(&bytes, line.count));
             Played {
-                table: ends::run(table, code, ends::front(&content, count)),
+                table: table::run(table, code, front(&content, count)),
                 wrong: 0,
             }
         }
@@ -123,6 +121,6 @@ fn close(table: Table, lines: u64, long: bool) {
         errors::complain(lines, 3);
         return;
     }
-    closing::tell(ends::books_in(table));
-    telling::tally(table.tally);
+    telling::closing::tell(table::books_in(table));
+    telling::total(table.tally);
 }

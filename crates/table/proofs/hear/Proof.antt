@@ -1,7 +1,7 @@
 -- The loop ends with the count of calls.
 use borrow.Author.Needs.{needs}
-use Rattle.bench.proofs.ends.hear.Statement.{statement}
-use Rattle.bench.proofs.ends.hear.Tie as tie
+use Rattle.table.proofs.hear.Statement.{statement}
+use Rattle.table.proofs.hear.Tie as tie
 
 abbrev Inv-loop : tie.InvT-loop
 Inv-loop bytes heard₀ calls₀ heard calls = Unit {0}

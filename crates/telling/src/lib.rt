@@ -1,18 +1,39 @@
-// What is told of an exchange, on standard output.
-use crate::ends::Tally;
-use crate::ends::front;
+// What is told of an exchange, and of the books at its end, on standard output.
+pub mod closing;
+
 use faults::Fault;
 use libc::STDOUT_FILENO;
 use line::Call;
-use machine::Hearing;
+use reasons::Reason;
 use till::Word;
+use words::rows::Words;
+use writing::words::is;
 
-fn say(text: &[u8]) {
+// How many commands were answered, ended unfinished, could not be sent, and were carried out.
+pub struct Tally {
+    pub answered: u64,
+    pub unfinished: u64,
+    pub unsent: u64,
+    pub carried: u64,
+}
+
+// The first n bytes, or all where there are fewer.
+pub fn front(s: &[u8], n: usize) -> &[u8] {
+    let end = basics::least_size(n, s.len());
+    &s[..end]
+}
+
+pub fn say(text: &[u8]) {
     io::write_all(STDOUT_FILENO, text);
 }
 
-fn say_number(n: u64) {
+pub fn say_number(n: u64) {
     io::print_decimal(STDOUT_FILENO, n);
+}
+
+fn say_words(words: Words) {
+    let bytes = words.bytes;
+    say(front(&bytes, words.count));
 }
 
 // A sum of stotinki, in leva.
@@ -26,7 +47,9 @@ pub fn say_leva(n: u64) {
 // A command as it stands in the script.
 pub fn heading(code: u8, line: &[u8]) {
     say(line);
-    say(b"\n");
+    say(b" (");
+    say_words(words::command_word(code));
+    say(b")\n");
 }
 
 pub fn unsent() {
@@ -71,13 +94,11 @@ pub fn silence() {
 }
 
 // What the device made of some bytes.
-pub fn call(hearing: Hearing) {
-    let call = hearing.call;
-    let given = hearing.given;
+pub fn call(call: Call, number: u64, taken: usize, reason: Reason) {
     match call {
         Call::Quiet => {
             say(b"  device: ");
-            say_number(hearing.taken as u64);
+            say_number(taken as u64);
             say(b" bytes, nothing to say\n");
         }
         Call::Nak => say(b"  device: broken frame (5), NAK\n"),
@@ -86,12 +107,22 @@ pub fn call(hearing: Hearing) {
             seq: _,
             code: _,
             count: _,
-        } => {
-            say(b"  device: carried out, ");
-            say_number(given.number);
-            say(b"\n");
-        }
+        } => carried_out(number, reason),
     }
+}
+
+// A command carried out, or the refusal and its reason.
+fn carried_out(number: u64, reason: Reason) {
+    say(b"  device: carried out: ");
+    say_words(words::reply_word(number));
+    say(b" (");
+    say_number(number);
+    say(b")");
+    if number != 0 {
+        say(b", ");
+        say_words(words::reason_word(reason));
+    }
+    say(b"\n");
 }
 
 // What the till end says of the try. An answer's data and its status stand at the front of `buf`.
@@ -106,15 +137,54 @@ pub fn says(word: Word, buf: &[u8]) {
 
 // The data of an answer; behind it stand six status bytes.
 fn answered(n: usize, buf: &[u8]) {
-    say(b"  till end: Answered \"");
-    if 6 <= n {
-        say(front(buf, n - 6));
+    let end = basics::least_size(n, buf.len());
+    if end < 6 {
+        return;
     }
-    say(b"\"\n");
+    let at = end - 6;
+    say(b"  till end: Answered ");
+    say_number(verdict::verdict_in(buf[at], buf[at + 1]) as u64);
+    say(b" \"");
+    say(front(buf, at));
+    say(b"\"");
+    bits(0, buf[at]);
+    bits(1, buf[at + 1]);
+    bits(2, buf[at + 2]);
+    bits(3, buf[at + 3]);
+    bits(4, buf[at + 4]);
+    bits(5, buf[at + 5]);
+    say(b"\n");
+}
+
+// The bits of a status byte that are set and not always so.
+fn bits(place: usize, byte: u8) {
+    bit(place, 0, byte);
+    bit(place, 1, byte / 2);
+    bit(place, 2, byte / 4);
+    bit(place, 3, byte / 8);
+    bit(place, 4, byte / 16);
+    bit(place, 5, byte / 32);
+    bit(place, 6, byte / 64);
+}
+
+fn bit(place: usize, number: usize, above: u8) {
+    if above % 2 == 0 {
+        return;
+    }
+    flag(words::status_word(place, number));
+}
+
+fn flag(words: Words) {
+    let bytes = words.bytes;
+    if is(front(&bytes, words.count), b"always") {
+        return;
+    }
+    say(b", ");
+    say_words(words);
 }
 
 // How it ended, at the end of the script.
-pub fn tally(tally: Tally) {
+pub fn total(tally: Tally) {
     say(b"commands: ");
     say_number(tally.answered);
     say(b" answered, ");

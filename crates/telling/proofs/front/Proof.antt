@@ -3,8 +3,8 @@ use mathlib.Core.Path.{sym}
 use native.Mathlib.Omega.{arith}
 use denote.Ref.{now}
 use lib.Seq.{length-take-le}
-use Rattle.bench.proofs.ends.front.Statement.{statement}
-use Rattle.bench.proofs.ends.front.Tie as tie
+use Rattle.telling.proofs.front.Statement.{statement}
+use Rattle.telling.proofs.front.Tie as tie
 
 slice-aggregate-result : tie.Need-slice-aggregate-result
 slice-aggregate-result c = sym (length-take-le _ (now (c .before .before .before .args .s)) (omega (arith, c .before .least-size .ensures)))

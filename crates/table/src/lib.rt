@@ -1,5 +1,4 @@
 // The till end, the device and the line between them (PROTOCOL 7.5, 9.1). All that they hold goes from hand to hand by value.
-use crate::telling;
 use books::Books;
 use faults::Fault;
 use faults::Faults;
@@ -7,6 +6,9 @@ use kept::Kept;
 use kept::KeptHearing;
 use line::Call;
 use reader::FRAME_ROOM;
+use reasons::Reason;
+use telling::Tally;
+use telling::front;
 use till::Till;
 use till::Word;
 use wire::ANSWER_ROOM;
@@ -30,14 +32,6 @@ pub struct Printer {
     kept: Kept,
     frame: [u8; FRAME_ROOM],
     last: [u8; ANSWER_ROOM],
-}
-
-// How many commands were answered, ended unfinished, could not be sent, and were carried out.
-pub struct Tally {
-    pub answered: u64,
-    pub unfinished: u64,
-    pub unsent: u64,
-    pub carried: u64,
 }
 
 // Both ends, what happens to the tries of the next command, and what was counted.
@@ -291,8 +285,39 @@ fn hear_more(heard: Heard, bytes: &[u8]) -> Heard {
     let mut last = printer.last;
     let place = heard.place;
     let called = kept::hear_kept(device, &mut frame, &mut last, &mut buf, sheet, bytes, place);
-    telling::call(called.hearing);
+    let hearing = called.hearing;
+    let call = hearing.call;
+    let given = hearing.given;
+    let reason = why(kept, call, frame);
+    telling::call(call, given.number, hearing.taken, reason);
     noted(heard, called, frame, last, buf)
+}
+
+// The first reason against a command, by the books and the sheet before it.
+fn why(kept: Kept, call: Call, frame: [u8; FRAME_ROOM]) -> Reason {
+    let device = kept.device;
+    let books = device.books;
+    let sheet = kept.sheet;
+    match call {
+        Call::Order {
+            seq: _,
+            code,
+            count,
+        } => {
+            let parsed = command::parse(code, front(content(&frame), count));
+            let said = matching::match_kept(sheet, carrying::search_in(books, parsed));
+            refusals::reason_of(books, said, parsed)
+        }
+        _ => Reason::Done,
+    }
+}
+
+// An order's data stands in the frame from its fourth byte on.
+fn content(frame: &[u8]) -> &[u8] {
+    if frame.len() < 3 {
+        return frame;
+    }
+    &frame[3..]
 }
 
 // What one call gave back goes behind what the ones before gave.
@@ -321,12 +346,6 @@ fn noted(
         count: further(heard.count, given.count),
         carried: more(heard.carried, carried_by(call)),
     }
-}
-
-// The first n bytes, or all where there are fewer.
-pub fn front(s: &[u8], n: usize) -> &[u8] {
-    let end = basics::least_size(n, s.len());
-    &s[..end]
 }
 
 // A place, which stops at the last one there is.

@@ -1,8 +1,8 @@
 -- The loop ends with the fifth try.
 use borrow.Author.Needs.{needs}
 use Prim.Native.Nat.{_-_}
-use Rattle.bench.proofs.ends.tries.Statement.{statement}
-use Rattle.bench.proofs.ends.tries.Tie as tie
+use Rattle.table.proofs.tries.Statement.{statement}
+use Rattle.table.proofs.tries.Tie as tie
 
 abbrev Inv-loop : tie.InvT-loop
 Inv-loop first table₀ count₀ n₀ table count n = Unit {0}
