@@ -75,7 +75,11 @@ fn way(n: u8, count: usize, fault: Fault) {
     say_number(n as u64);
     say(b", ");
     say_number(count as u64);
-    say(b" bytes: ");
+    say(b" byte");
+    if count != 1 {
+        say(b"s");
+    }
+    say(b": ");
     match fault {
         Fault::Nothing => say(b"arrives whole\n"),
         Fault::Lost => say(b"lost, nothing arrives\n"),
@@ -130,7 +134,9 @@ pub fn says(word: Word, buf: &[u8]) {
     match word {
         Word::SendAgain(_) => say(b"  till end: Send again\n"),
         Word::Answered(n) => answered(n, buf),
-        Word::Unfinished(_) => say(b"  till end: UNFINISHED\n"),
+        Word::Unfinished(_) => say(
+            b"  till end: UNFINISHED, no answer in five tries; it may be done all the same\n",
+        ),
         _ => say(b"  till end: nothing\n"),
     }
 }
@@ -145,15 +151,42 @@ fn answered(n: usize, buf: &[u8]) {
     say(b"  till end: Answered ");
     say_number(verdict::verdict_in(buf[at], buf[at + 1]) as u64);
     say(b" \"");
-    say(front(buf, at));
+    say_data(front(buf, at));
     say(b"\"");
-    bits(0, buf[at]);
-    bits(1, buf[at + 1]);
-    bits(2, buf[at + 2]);
-    bits(3, buf[at + 3]);
-    bits(4, buf[at + 4]);
-    bits(5, buf[at + 5]);
+    status(&buf[at..]);
     say(b"\n");
+}
+
+// Data as a script writes it (SCRIPTS 4): what is no plain letter as two hexadecimal digits.
+fn say_data(bytes: &[u8]) {
+    let mut i = 0;
+    while i < bytes.len() {
+        say_byte(bytes[i]);
+        i += 1;
+    }
+}
+
+fn say_byte(byte: u8) {
+    if (0x20 <= byte) & (byte <= 0x7E) & (byte != b'\\') {
+        let letter = [byte];
+        say(&letter);
+        return;
+    }
+    say(b"\\x");
+    io::print_hex(STDOUT_FILENO, byte as u64, 2);
+}
+
+// The six status bytes, each by its bits.
+fn status(bytes: &[u8]) {
+    if bytes.len() < 6 {
+        return;
+    }
+    bits(0, bytes[0]);
+    bits(1, bytes[1]);
+    bits(2, bytes[2]);
+    bits(3, bytes[3]);
+    bits(4, bytes[4]);
+    bits(5, bytes[5]);
 }
 
 // The bits of a status byte that are set and not always so.
