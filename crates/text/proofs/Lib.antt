@@ -1,3 +1,3 @@
 pub mod Laws
 pub mod Cutting
-pub mod Pairs
+pub mod Fours

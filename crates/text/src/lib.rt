@@ -1,7 +1,7 @@
 // Looking for a byte in lent data, and putting bytes and digit fields into a lent buffer. A byte whose place lies past the buffer's end is
 // not written, so no place is wrong and no function here asks anything of its caller.
 ghost use mathlib.Core.Path.{_≡_};
-ghost use Prim.Native.Nat.{_<_, _≤_, _+_, _/_, _%_, _^_};
+ghost use Prim.Native.Nat.{_<_, _≤_, _+_, _%_};
 ghost use lib.ListN.{length, set};
 ghost use lib.Seq.{sets};
 ghost use Rattle.text.specs.Digits.{digits};
@@ -61,78 +61,64 @@ fn copy(part: &mut [u8], src: &[u8])
     }
 }
 
-// The digit writer: `part` begins at the field. Of a field that is longer than the part the last digits have no room.
+// The digit writer: `part` begins at the field. The last digits first, so that one number shrinks as the field fills: four a division
+// where the field has room, and the first ones, which four does not divide, one by one.
 pub fn write_digits(part: &mut [u8], width: usize, n: u64)
     ensures { λ r. ⌜ now (part .exit) ≡ sets (now (part .entry)) 0 (digits width n) ⌝ }
 {
-    let room = part.len();
-    if width <= room {
-        write_pairs(part, width, n);
+    if part.len() < width {
+        write_singly(part, width, n);
         return;
     }
-    write_pairs(part, room, without(n, width - room));
+    let left = write_fours(part, width, n);
+    write_singly(part, width % 4, left);
 }
 
-// Four digits a turn, the last ones first, two of them a division.
-fn write_pairs(part: &mut [u8], width: usize, n: u64)
-    requires { ⌜ width ≤ length (now part) ⌝ }
+// One digit a division. Those that have no room are not written.
+fn write_singly(part: &mut [u8], width: usize, n: u64)
     ensures { λ r. ⌜ now (part .exit) ≡ sets (now (part .entry)) 0 (digits width n) ⌝ }
+{
+    let mut left = n;
+    let mut i = width;
+    while 0 < i {
+        i -= 1;
+        put_byte(part, i, 48 + (left % 10) as u8);
+        left /= 10;
+    }
+}
+
+// Four digits a division. The number that the digits before them say is handed back.
+fn write_fours(part: &mut [u8], width: usize, n: u64) -> u64
+    requires { ⌜ width ≤ length (now part) ⌝ }
+    ensures { λ r. ⌜ sets (now (part .exit)) 0 (digits (width % 4) r) ≡ sets (now (part .entry)) 0 (digits width n) ⌝ }
 {
     let mut left = n;
     let mut i = width;
     while 3 < i {
         i -= 4;
         let four = (left % 10000) as u32;
-        put_pair(part, i + 2, four % 100);
-        put_pair(part, i, four / 100);
         left /= 10000;
-    }
-    write_rest(part, i, left);
-}
-
-// The first digits of a width that four does not divide.
-fn write_rest(part: &mut [u8], width: usize, n: u64)
-    requires { ⌜ width < 4 ⌝ }
-    requires { ⌜ width ≤ length (now part) ⌝ }
-    ensures { λ r. ⌜ now (part .exit) ≡ sets (now (part .entry)) 0 (digits width n) ⌝ }
-{
-    if width == 0 {
-        return;
-    }
-    if width == 1 {
-        part[0] = 48 + (n % 10) as u8;
-        return;
-    }
-    put_pair(part, width - 2, (n % 100) as u32);
-    if width == 3 {
-        part[0] = 48 + (n / 100 % 10) as u8;
-    }
-}
-
-// Both digits of a number below 100. They stand in one number, the ones at 256 times their worth, so that one store writes both;
-// below 100 a tenth is 103 / 1024.
-fn put_pair(part: &mut [u8], at: usize, pair: u32)
-    requires { ⌜ pair < 100 ⌝ }
-    requires { ⌜ at + 1 < length (now part) ⌝ }
-    ensures { λ r. ⌜ now (part .exit) ≡ set (set (now (part .entry)) at (48 + pair / 10)) (at + 1) (48 + pair % 10) ⌝ }
-{
-    let tens = pair * 103 / 1024;
-    let both = 0x3030 + 256 * pair - 2559 * tens;
-    part[at] = (both % 256) as u8;
-    part[at + 1] = (both / 256) as u8;
-}
-
-// A number without its last digits.
-fn without(n: u64, places: usize) -> u64
-    ensures { λ r. ⌜ r ≡ n / 10 ^ places ⌝ }
-{
-    let mut left = n;
-    let mut i = places;
-    while 0 < i {
-        left /= 10;
-        i -= 1;
+        put_four(part, i, four);
     }
     left
+}
+
+// The digits of a number below 10,000, in one number, the first digit in its lowest byte, so that one store writes them all. `pairs` has
+// both halves of the number side by side, `tens` the tens of both: below 10,000 a hundredth is 5243 / 524288, below 100 a tenth 103 / 1024.
+fn put_four(part: &mut [u8], at: usize, four: u32)
+    requires { ⌜ four < 10000 ⌝ }
+    requires { ⌜ at + 3 < length (now part) ⌝ }
+    ensures { λ r. ⌜ now (part .exit) ≡ sets (now (part .entry)) at (digits 4 four) ⌝ }
+{
+    let high = four * 5243 / 524288;
+    let pairs = four * 65536 - high * 6553599;
+    let scaled = pairs * 103;
+    let tens = scaled % 65536 / 1024 + scaled / 67108864 * 65536;
+    let all = 0x30303030 + pairs * 256 - tens * 2559;
+    part[at] = (all % 256) as u8;
+    part[at + 1] = (all / 256 % 256) as u8;
+    part[at + 2] = (all / 65536 % 256) as u8;
+    part[at + 3] = (all / 16777216) as u8;
 }
 
 // A field of `width` digits at a place of the buffer.
