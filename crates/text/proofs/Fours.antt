@@ -6,7 +6,7 @@ use native.Mathlib.Nat.{add-zero, zero-add, add-suc, div-one, pow-zero, pow-suc,
 use native.Mathlib.Omega.{arith}
 use lib.Arith.{mod-mul}
 use lib.ListN.{length, set}
-use lib.Seq.{sets, length-sets}
+use lib.Seq.{sets}
 use Rattle.text.specs.Digits.{digits}
 use Rattle.text.proofs.Laws.{sets-append, set-sets, length-digits}
 

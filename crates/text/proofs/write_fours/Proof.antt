@@ -1,7 +1,6 @@
 use Prim.Native.Nat.{_≤_, _%_}
 use mathlib.Core.Path.{_≡_, refl, ap, _∙_}
 use native.Mathlib.Omega.{arith}
-use borrow.Author.Needs.{needs}
 use lib.ListN.{length}
 use lib.Seq.{sets, length-sets}
 use Rattle.text.specs.Digits.{digits}
