@@ -10,6 +10,7 @@ use Rattle.exchange.proofs.Hearing.{byte-heard, heard-all, heard-more, 
 use Rattle.exchange.proofs.hear_some.Statement.{statement}
 use Rattle.exchange.proofs.hear_some.Tie as tie
 
+-- What is still to be heard, from where hearing stands, brings what all of it brought from the beginning.
 abbrev Inv-loop : tie.InvT-loop
 Inv-loop frame answer₀ bytes buf₀ listening₀ i₀ answer buf listening i =
     (i ≤ length bytes) × (length buf ≡ length buf₀) × (heardSome frame listening answer buf (drop i bytes) ≡ heardSome frame listening₀ answer₀ buf₀ bytes)

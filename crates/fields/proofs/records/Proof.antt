@@ -4,6 +4,7 @@ use lib.ListN.{length}
 use Rattle.fields.proofs.records.Statement.{statement}
 use Rattle.fields.proofs.records.Tie as tie
 
+-- What was used lies within the input.
 abbrev Inv-loop : tie.InvT-loop
 Inv-loop s i₀ i = i ≤ length s
 

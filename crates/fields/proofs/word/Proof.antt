@@ -3,6 +3,7 @@ use borrow.Author.Needs.{needs}
 use Rattle.fields.proofs.word.Statement.{statement}
 use Rattle.fields.proofs.word.Tie as tie
 
+-- What is shown is a part of the word.
 abbrev Inv-loop : tie.InvT-loop
 Inv-loop s n₀ n = n ≤ 13
 

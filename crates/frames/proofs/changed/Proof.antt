@@ -3,6 +3,7 @@ use borrow.Author.Needs.{needs}
 use Rattle.frames.proofs.changed.Statement.{statement}
 use Rattle.frames.proofs.changed.Tie as tie
 
+-- The next place lies within the frame, or behind its end.
 abbrev Inv-loop : tie.InvT-loop
 Inv-loop kind buf n i₀ i = i ≤ n
 

@@ -4,6 +4,7 @@ use lib.ListN.{length}
 use Rattle.frames.proofs.pairs.Statement.{statement}
 use Rattle.frames.proofs.pairs.Tie as tie
 
+-- The next byte lies within those to be shown, or behind the last.
 abbrev Inv-loop : tie.InvT-loop
 Inv-loop bytes i₀ i = i ≤ length bytes
 

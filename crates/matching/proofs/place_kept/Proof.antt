@@ -6,6 +6,7 @@ use Rattle.sheet.proofs.Newest.{newest-zero, newest-hit, newest-miss}
 use Rattle.matching.proofs.place_kept.Statement.{statement}
 use Rattle.matching.proofs.place_kept.Tie as tie
 
+-- The newest line among those not looked at yet is the newest of all.
 abbrev Inv-loop : tie.InvT-loop
 Inv-loop sheet wanted n i₀ i = newest sheet wanted n i ≡ newest sheet wanted n n
 

@@ -9,6 +9,7 @@ use Rattle.writing.proofs.Saying.{Head, head-start, head-turn, ends-the
 use Rattle.writing.proofs.content.unescape.Statement.{statement}
 use Rattle.writing.proofs.content.unescape.Tie as tie
 
+-- What was read and put so far, and where reading stands, are those of the bytes before i.
 abbrev Inv-loop : tie.InvT-loop
 Inv-loop s buf₀ stand₀ n₀ i₀ buf stand n i = Head s buf₀ buf stand n i
 
