@@ -3,7 +3,7 @@ use books::Books;
 use faults::Fault;
 use faults::Faults;
 use kept::Kept;
-use kept::KeptHearing;
+use kept::Next;
 use line::Call;
 use reader::FRAME_ROOM;
 use reasons::Reason;
@@ -279,17 +279,12 @@ fn hear_more(heard: Heard, bytes: &[u8]) -> Heard {
     let mut buf = [0u8; ANSWER_ROOM];
     let printer = heard.printer;
     let kept = printer.kept;
-    let device = kept.device;
-    let sheet = kept.sheet;
     let mut frame = printer.frame;
     let mut last = printer.last;
-    let place = heard.place;
-    let called = kept::hear_kept(device, &mut frame, &mut last, &mut buf, sheet, bytes, place);
-    let hearing = called.hearing;
-    let call = hearing.call;
-    let given = hearing.given;
+    let called = kept::hear_next(kept, &mut frame, &mut last, &mut buf, bytes, heard.place);
+    let call = called.call;
     let reason = why(kept, call, frame);
-    telling::call(call, given.number, hearing.taken, reason);
+    telling::call(call, called.number, called.taken, reason);
     noted(heard, called, frame, last, buf)
 }
 
@@ -323,27 +318,20 @@ fn content(frame: &[u8]) -> &[u8] {
 // What one call gave back goes behind what the ones before gave.
 fn noted(
     heard: Heard,
-    called: KeptHearing,
+    called: Next,
     frame: [u8; FRAME_ROOM],
     last: [u8; ANSWER_ROOM],
     buf: [u8; ANSWER_ROOM],
 ) -> Heard {
-    let hearing = called.hearing;
-    let given = hearing.given;
-    let call = hearing.call;
-    let sheet = called.sheet;
-    let device = given.device;
+    let call = called.call;
+    let kept = called.kept;
     let mut back = heard.back;
-    text::put_bytes(&mut back, heard.count, front(&buf, given.count));
+    text::put_bytes(&mut back, heard.count, front(&buf, called.count));
     Heard {
-        printer: Printer {
-            kept: Kept { device, sheet },
-            frame,
-            last,
-        },
-        place: further(heard.place, hearing.taken),
+        printer: Printer { kept, frame, last },
+        place: further(heard.place, called.taken),
         back,
-        count: further(heard.count, given.count),
+        count: further(heard.count, called.count),
         carried: more(heard.carried, carried_by(call)),
     }
 }
