@@ -11,7 +11,7 @@ ghost use mathlib.Core.Path.{_≡_};
 ghost use Prim.Native.Nat.{_≤_};
 ghost use lib.ListN.{drop};
 ghost use Rattle.machine.specs.Hearing.{partOf, afterPart};
-ghost use Rattle.kept.specs.ByValue.{machineOf, nextOf, freshKept, notHeard};
+ghost use Rattle.kept.specs.ByValue.{machineOf, nextOf, freshKept};
 
 // A device and the 512 records of its sheet.
 pub struct Kept {
@@ -93,20 +93,4 @@ fn hear_kept(
     let mut s = sheet;
     let hearing = hear(device, frame, last, buf, &mut s, bytes, from);
     KeptHearing { hearing, sheet: s }
-}
-
-// What `device::hear` does where the sheet that is lent is too short: 7, no byte is taken, and everything stays (PROTOCOL 2.4).
-pub fn hear_short(
-    device: Device,
-    frame: &mut [u8; FRAME_ROOM],
-    last: &mut [u8; ANSWER_ROOM],
-    buf: &mut [u8],
-    bytes: &[u8],
-    from: usize,
-) -> Hearing
-    ensures { λ r. ⌜ (r ≡ notHeard device) × ((now (frame .exit) ≡ now (frame .entry)) × ((now (last .exit) ≡ now (last .entry)) × (now (buf .exit) ≡ now (buf .entry)))) ⌝ }
-{
-    let line = sheet::blank_line();
-    let mut s = [line; 1];
-    hear(device, frame, last, buf, &mut s, bytes, from)
 }

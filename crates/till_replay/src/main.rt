@@ -1,5 +1,5 @@
-// A till end told of a list of events, and what it says of each. An event is the length of the buffer lent, then 43h, n, CMD and n bytes: a
-// command; 42h and a byte: a byte from the line; 54h: a timeout.
+// A till end told of a list of events (`events`), and what it says of each: of a command, a byte from the line, a timeout.
+use events::TILL_ROOM;
 use libc::STDERR_FILENO;
 use libc::STDIN_FILENO;
 use libc::STDOUT_FILENO;
@@ -11,14 +11,11 @@ ghost use mathlib.Core.Path.{_≡_};
 ghost use Prim.Native.Nat.{_<_, _≤_};
 ghost use lib.ListN.{length};
 
-// The longest event: a command with 255 data bytes.
-const EVENT_ROOM: usize = 259;
-
 // Events are read one by one to the end of the input.
 fn main() {
     let mut frame = [0u8; FRAME_ROOM];
     let mut answer = [0u8; FRAME_ROOM];
-    let mut event = [0u8; EVENT_ROOM];
+    let mut event = [0u8; TILL_ROOM];
     let mut buf = [0u8; FRAME_ROOM];
     let mut till = till::fresh();
     let mut events: u64 = 0;
@@ -65,27 +62,21 @@ fn next_event(event: &mut [u8]) -> usize
     if !begun(event) {
         return 0;
     }
-    if !more(event, 1, 2) {
-        return 1;
+    let mut n = 1;
+    while n < TILL_ROOM {
+        let whole = events::of_till(&event[0..n]);
+        if whole == n {
+            return n;
+        }
+        if whole < n {
+            return 1;
+        }
+        if !more(event, n, whole) {
+            return 1;
+        }
+        n = whole;
     }
-    let kind = event[1];
-    if kind == b'T' {
-        return 2;
-    }
-    if !more(event, 2, 3) {
-        return 1;
-    }
-    if kind == b'B' {
-        return 3;
-    }
-    if kind != b'C' {
-        return 1;
-    }
-    let end = wide(event[2]) + 4;
-    if !more(event, 3, end) {
-        return 1;
-    }
-    end
+    n
 }
 
 // The first byte of an event, where one comes.
@@ -107,12 +98,6 @@ fn more(event: &mut [u8], from: usize, end: usize) -> bool
     io::read_full(STDIN_FILENO, &mut event[from..end]) == end - from
 }
 
-fn wide(b: u8) -> usize
-    ensures { λ r. ⌜ r < 256 ⌝ }
-{
-    b as usize
-}
-
 // One event, its first n bytes. What is lent is the front of the buffer.
 fn happen(
     till: Till,
@@ -126,8 +111,7 @@ fn happen(
     requires { ⌜ n < 260 ⌝ }
     requires { ⌜ length (now buf) ≡ 256 ⌝ }
 {
-    let end = wide(event[0]);
-    let lent = &mut buf[0..end];
+    let lent = &mut buf[0..events::room_in(event)];
     if n < 3 {
         return till::timeout(till, &*frame, lent);
     }
