@@ -1,5 +1,4 @@
-// A device told of a list of events (`events`), and what it gives back on each: of an event with 42h all that it asks for is lent, of one
-// with 53h one thing at a length.
+// A device told of a list of events, and what it gives back on each. The crate `events` says what an event is and what it lends.
 use events::DEVICE_ROOM;
 use events::Lent;
 use kept::Kept;
@@ -40,9 +39,9 @@ fn main() {
     }
 }
 
-// Why there are no more events: 0 is the end of the input, 1 an event that is none.
+// Why there are no more events: 1 is the end of the input, 0 an event that is none.
 fn ended(n: usize, events: u64) {
-    if n == 0 {
+    if n == 1 {
         return;
     }
     io::write_all(STDERR_FILENO, b"error: after ");
@@ -53,28 +52,29 @@ fn ended(n: usize, events: u64) {
     );
 }
 
+fn unread() {
+    os::fail(b"error: standard input can't be read");
+}
+
 fn unwritten() {
     os::fail(b"error: standard output can't be written");
 }
 
-// The next event at the front of the buffer, and its length: 0 where the input ends or can't be read, 1 where what comes is none.
+// The next event at the front of the buffer, and its length: 0 where what comes is none, 1 where the input ends or can't be read.
 fn next_event(event: &mut [u8]) -> usize
     requires { ⌜ length (now event) ≡ 5 ⌝ }
 {
     if !begun(event) {
-        return 0;
+        return 1;
     }
     let mut n = 1;
     while n < DEVICE_ROOM {
         let whole = events::of_device(&event[0..n]);
-        if whole == n {
-            return n;
-        }
-        if whole < n {
-            return 1;
+        if whole <= n {
+            return whole;
         }
         if !more(event, n, whole) {
-            return 1;
+            return 0;
         }
         n = whole;
     }
@@ -87,7 +87,7 @@ fn begun(event: &mut [u8]) -> bool
 {
     let got = libc::read(STDIN_FILENO, &mut event[0..1]);
     if got < 0 {
-        os::fail(b"error: standard input can't be read");
+        unread();
     }
     0 < got
 }

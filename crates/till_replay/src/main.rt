@@ -1,4 +1,4 @@
-// A till end told of a list of events (`events`), and what it says of each: of a command, a byte from the line, a timeout.
+// A till end told of a list of events, and what it says of each. The crate `events` says what an event is.
 use events::TILL_ROOM;
 use libc::STDERR_FILENO;
 use libc::STDIN_FILENO;
@@ -37,9 +37,9 @@ fn main() {
     }
 }
 
-// Why there are no more events: 0 is the end of the input, 1 an event that is none.
+// Why there are no more events: 1 is the end of the input, 0 an event that is none.
 fn ended(n: usize, events: u64) {
-    if n == 0 {
+    if n == 1 {
         return;
     }
     io::write_all(STDERR_FILENO, b"error: after ");
@@ -50,29 +50,30 @@ fn ended(n: usize, events: u64) {
     );
 }
 
+fn unread() {
+    os::fail(b"error: standard input can't be read");
+}
+
 fn unwritten() {
     os::fail(b"error: standard output can't be written");
 }
 
-// The next event at the front of the buffer, and its length: 0 where the input ends or can't be read, 1 where what comes is none.
+// The next event at the front of the buffer, and its length: 0 where what comes is none, 1 where the input ends or can't be read.
 fn next_event(event: &mut [u8]) -> usize
     requires { ⌜ length (now event) ≡ 259 ⌝ }
     ensures { λ r. ⌜ r < 260 ⌝ }
 {
     if !begun(event) {
-        return 0;
+        return 1;
     }
     let mut n = 1;
     while n < TILL_ROOM {
         let whole = events::of_till(&event[0..n]);
-        if whole == n {
-            return n;
-        }
-        if whole < n {
-            return 1;
+        if whole <= n {
+            return whole;
         }
         if !more(event, n, whole) {
-            return 1;
+            return 0;
         }
         n = whole;
     }
@@ -85,7 +86,7 @@ fn begun(event: &mut [u8]) -> bool
 {
     let got = libc::read(STDIN_FILENO, &mut event[0..1]);
     if got < 0 {
-        os::fail(b"error: standard input can't be read");
+        unread();
     }
     0 < got
 }
