@@ -28,7 +28,7 @@ fn run(ends: Ends) {
     let mut out = out_room();
     let mut bytes = part_room();
     let mut kept = kept::fresh_kept();
-    let mut stage = passing::first(ends.replays);
+    let mut stage = keeping::first_stage(ends.replays);
     let mut turns = 9223372036854775807u64;
     while turns > 0 {
         stage = passing::read_part(ends, stage, &mut bytes);
