@@ -5,7 +5,7 @@ use keeping::Source;
 use keeping::Stage;
 use libc::SEEK_END;
 use libc::STDERR_FILENO;
-use opening::Ends;
+use options::Ends;
 ghost use Prim.Native.Nat.{_≤_};
 ghost use lib.ListN.{length};
 ghost use Rattle.passing.specs.Passing.{PartRead, Answered};

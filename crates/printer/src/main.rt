@@ -1,7 +1,7 @@
 // A device on a line: the raw bytes that it receives on standard input or a LINE, all that it gives back on standard output or the same LINE,
 // as soon as it is there. With a RECORDING it stands where that ends, and keeps there what it hears (LINE).
 use kept::Kept;
-use opening::Ends;
+use options::Ends;
 use reader::FRAME_ROOM;
 use recorder::Part;
 use wire::ANSWER_ROOM;
