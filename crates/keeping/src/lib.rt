@@ -4,6 +4,7 @@ ghost use mathlib.Core.Path.{_≡_};
 ghost use mathlib.Core.Bool.{not};
 ghost use Prim.Native.Nat.{_+_, _/_, min};
 ghost use lib.Dec.{eqb};
+ghost use Rattle.keeping.specs.Stages.{firstStage, stageAt, sourceOf, stageAfter, goesOut};
 ghost use Rattle.keeping.specs.Keeping.{takenFor, someRead, noneRead, sizeOf, isWhole, behindLast};
 
 // LINE 2.5: how often a long replay says how far it is, in bytes.
@@ -32,6 +33,73 @@ pub enum Next {
     End,
     Closed,
     Broken,
+}
+
+// How far it is: whether the recording is still replayed, how many bytes were heard with the part that was read last, how many bytes that
+// part has, and whether all is over.
+pub struct Stage {
+    pub replays: bool,
+    pub heard: u64,
+    pub count: usize,
+    pub over: bool,
+}
+
+// Before the first part.
+pub fn first_stage(replays: bool) -> Stage
+    ensures { λ r. ⌜ r ≡ firstStage replays ⌝ }
+{
+    stage_at(replays, 0, 0, false)
+}
+
+fn stage_at(replays: bool, heard: u64, count: usize, over: bool) -> Stage
+    ensures { λ r. ⌜ r ≡ stageAt replays heard count over ⌝ }
+{
+    Stage {
+        replays,
+        heard,
+        count,
+        over,
+    }
+}
+
+// Where the next part comes from.
+pub fn source_of(replays: bool, online: bool) -> Source
+    ensures { λ r. ⌜ r ≡ sourceOf replays online ⌝ }
+{
+    if replays {
+        return Source::Recording;
+    }
+    if online {
+        return Source::Line;
+    }
+    Source::Input
+}
+
+// How far it is behind a read; `kept` says whether bytes of the line stand in the recording.
+pub fn stage_after(next: Next, heard: u64, count: usize, kept: bool) -> Stage
+    ensures { λ r. ⌜ r ≡ stageAfter next heard count kept ⌝ }
+{
+    match next {
+        Next::Silent => stage_at(true, grown(heard, count), count, false),
+        Next::Begin => stage_at(false, heard, 0, false),
+        Next::Answer => {
+            if kept {
+                return stage_at(false, grown(heard, count), count, false);
+            }
+            stage_at(false, heard, 0, true)
+        }
+        Next::Wait => stage_at(false, heard, 0, false),
+        Next::End => stage_at(false, heard, 0, true),
+        Next::Closed => stage_at(false, heard, 0, true),
+        Next::Broken => stage_at(false, heard, 0, true),
+    }
+}
+
+// Whether something is to go out: never while the recording is replayed.
+pub fn goes_out(replays: bool, given: usize) -> bool
+    ensures { λ r. ⌜ r ≡ goesOut replays given ⌝ }
+{
+    !replays & (0 < given)
 }
 
 // What a read is taken for; with no bytes read, `terminal` says whether the source is one.

@@ -1,22 +1,10 @@
-// What `printer` stands between: the line and the recording, as its arguments name them, opened before any byte is heard (LINE 1 and 2). No
-// contract can say what the system opens: what is decided here is in `options` and `keeping`, and each function is proved safe and ending.
+// What `printer` stands between: the line and the recording, as its arguments name them, opened before any byte is heard (LINE 1 and 2). What
+// the system opens no contract can say: what is promised holds for whatever it answers. What is decided is in `options` and `keeping`.
 use libc::STDERR_FILENO;
-use libc::STDIN_FILENO;
-use libc::STDOUT_FILENO;
 use options::Argument;
 use options::Asked;
-
-// The descriptors: where bytes come from, where answers go, the recording to read and the recording to append to, -1 where there is
-// none; whether it is a LINE, whether there is a recording to replay, and whether all is open.
-pub struct Ends {
-    pub input: i32,
-    pub output: i32,
-    pub old: i32,
-    pub tape: i32,
-    pub online: bool,
-    pub replays: bool,
-    pub ready: bool,
-}
+use options::Ends;
+ghost use Rattle.opening.specs.Opening.{Arguments, Opened};
 
 // A recording to read and to append to, and whether that can be done.
 struct Tape {
@@ -25,24 +13,42 @@ struct Tape {
     ready: bool,
 }
 
+// A line, and whether it could be opened.
+struct Line {
+    fd: i32,
+    ready: bool,
+}
+
 // All that the arguments ask for, or a message.
-pub fn open_ends() -> Ends {
+pub fn open_ends() -> Ends
+    ensures { λ r. ⌜ Opened r ⌝ }
+{
     let asked = arguments();
     if !asked.fits {
-        io::write_all(
-            STDERR_FILENO,
-            b"usage: printer [-l LINE] [RECORDING]\nerror: these arguments are of no such form\n",
-        );
-        return none_open();
+        refuse();
+        return options::none_open();
     }
     let tape = recording_at(asked.recording);
     if !tape.ready {
-        return none_open();
+        return options::none_open();
     }
-    line_at(asked, tape)
+    let line = line_at(asked.line);
+    if !line.ready {
+        return options::none_open();
+    }
+    options::ends_of(asked, line.fd, tape.old, tape.tape)
 }
 
-fn arguments() -> Asked {
+fn refuse() {
+    io::write_all(
+        STDERR_FILENO,
+        b"usage: printer [-l LINE] [RECORDING]\nerror: these arguments are of no such form\n",
+    );
+}
+
+fn arguments() -> Asked
+    ensures { λ r. ⌜ Arguments r ⌝ }
+{
     let first = argument(1);
     let second = argument(2);
     let third = argument(3);
@@ -53,18 +59,6 @@ fn argument(i: usize) -> Argument {
     let mut word = io::buffer();
     let n = os::arg(i, &mut word);
     options::argument_of(&word[..n])
-}
-
-fn none_open() -> Ends {
-    Ends {
-        input: -1,
-        output: -1,
-        old: -1,
-        tape: -1,
-        online: false,
-        replays: false,
-        ready: false,
-    }
 }
 
 // The argument's name, as a recording; place 0 is none.
@@ -153,11 +147,13 @@ fn is_synced(folder: &[u8]) -> bool {
     done
 }
 
-// The argument's name, as a line; place 0 is standard input and output.
-fn line_at(asked: Asked, tape: Tape) -> Ends {
-    let place = asked.line;
+// The argument's name, as a line; place 0 is none.
+fn line_at(place: usize) -> Line {
     if place == 0 {
-        return joined(STDIN_FILENO, STDOUT_FILENO, tape, asked);
+        return Line {
+            fd: -1,
+            ready: true,
+        };
     }
     let mut name = io::buffer();
     let n = os::arg(place, &mut name);
@@ -165,19 +161,6 @@ fn line_at(asked: Asked, tape: Tape) -> Ends {
     if fd < 0 {
         io::write_all(STDERR_FILENO, b"error: the line can't be opened: ");
         os::fail(&name[..n]);
-        return none_open();
     }
-    joined(fd, fd, tape, asked)
-}
-
-fn joined(input: i32, output: i32, tape: Tape, asked: Asked) -> Ends {
-    Ends {
-        input,
-        output,
-        old: tape.old,
-        tape: tape.tape,
-        online: asked.line != 0,
-        replays: asked.recording != 0,
-        ready: true,
-    }
+    Line { fd, ready: 0 <= fd }
 }

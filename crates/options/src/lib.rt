@@ -1,6 +1,8 @@
 // What the arguments of `printer` ask for: printer [-l LINE] [RECORDING] (LINE 1).
 ghost use mathlib.Core.Path.{_≡_};
 ghost use Rattle.options.specs.Options.{argumentOf, isSign, isName, placesOf, askedFor};
+ghost use Rattle.options.specs.Ends.{noneOpen, endsOf};
+ghost use mathlib.Core.Bool.{cond};
 
 // LINE 1.2: the sign before a LINE; a name; or neither.
 pub enum Argument {
@@ -14,6 +16,18 @@ pub struct Asked {
     pub fits: bool,
     pub line: usize,
     pub recording: usize,
+}
+
+// The descriptors: where bytes come from, where answers go, the recording to read and the recording to append to, -1 where there is
+// none; whether it is a LINE, whether there is a recording to replay, and whether all is open.
+pub struct Ends {
+    pub input: i32,
+    pub output: i32,
+    pub old: i32,
+    pub tape: i32,
+    pub online: bool,
+    pub replays: bool,
+    pub ready: bool,
 }
 
 // What one argument is.
@@ -94,4 +108,45 @@ fn places(fits: bool, line: usize, recording: usize) -> Asked
         line: 0,
         recording: 0,
     }
+}
+
+// Nothing is open.
+pub fn none_open() -> Ends
+    ensures { λ r. ⌜ r ≡ noneOpen ⌝ }
+{
+    Ends {
+        input: -1,
+        output: -1,
+        old: -1,
+        tape: -1,
+        online: false,
+        replays: false,
+        ready: false,
+    }
+}
+
+// All that is asked for is open: a LINE, or standard input and output; a recording, to read and to append to, or none.
+pub fn ends_of(asked: Asked, line: i32, old: i32, tape: i32) -> Ends
+    ensures { λ r. ⌜ r ≡ endsOf asked line old tape ⌝ }
+{
+    let online = asked.line != 0;
+    let replays = asked.recording != 0;
+    Ends {
+        input: either(online, line, 0),
+        output: either(online, line, 1),
+        old: either(replays, old, -1),
+        tape: either(replays, tape, -1),
+        online,
+        replays,
+        ready: true,
+    }
+}
+
+fn either(first: bool, a: i32, b: i32) -> i32
+    ensures { λ r. ⌜ r ≡ cond first a b ⌝ }
+{
+    if first {
+        return a;
+    }
+    b
 }

@@ -1,75 +1,27 @@
-// The parts that a line or a recording brings: read, kept, and what they gave back passed on (LINE 2 and 3). No contract can say what the
-// system reads and writes: what is decided here is in `keeping`, and each function is proved safe and ending.
+// The parts that a line or a recording brings: read, kept, and what they gave back passed on (LINE 2 and 3). What the system reads and writes
+// no contract can say: what is promised holds for whatever it answers. What is decided is in `keeping`.
 use keeping::Next;
 use keeping::Source;
+use keeping::Stage;
 use libc::SEEK_END;
 use libc::STDERR_FILENO;
-use opening::Ends;
-ghost use mathlib.Core.Path.{_≡_};
-ghost use mathlib.Core.Bool.{false};
+use options::Ends;
 ghost use Prim.Native.Nat.{_≤_};
 ghost use lib.ListN.{length};
-
-// How far it is: whether the recording is still replayed, how many bytes were heard with the part that was read last, how many bytes that
-// part has, and whether all is over.
-pub struct Stage {
-    pub replays: bool,
-    pub heard: u64,
-    pub count: usize,
-    pub over: bool,
-}
-
-// Before the first part.
-pub fn first(replays: bool) -> Stage
-    ensures { λ r. ⌜ r ≡ record { replays = replays; heard = 0; count = 0; over = false } ⌝ }
-{
-    Stage {
-        replays,
-        heard: 0,
-        count: 0,
-        over: false,
-    }
-}
-
-fn stands(replays: bool, heard: u64, count: usize, over: bool) -> Stage
-    ensures { λ r. ⌜ r .count ≡ count ⌝ }
-{
-    Stage {
-        replays,
-        heard,
-        count,
-        over,
-    }
-}
+ghost use Rattle.passing.specs.Passing.{PartRead, Answered};
 
 // The next part, in the first bytes; over where there is none, and then a message says why.
 pub fn read_part(ends: Ends, stage: Stage, bytes: &mut [u8]) -> Stage
+    ensures { λ r. ⌜ PartRead (stage .replays) (ends .online) (stage .heard) (length (now (bytes .exit))) r ⌝ }
     ensures { λ r. ⌜ r .count ≤ length (now (bytes .exit)) ⌝ }
 {
-    let source = source_of(ends, stage);
+    let source = keeping::source_of(stage.replays, ends.online);
     let fd = descriptor(ends, stage);
     let got = libc::read(fd, bytes);
     let n = io::count(got, &*bytes);
-    let next = keeping::taken_for(source, got < 0, is_terminal(fd, got), n);
-    match next {
-        Next::Silent => replayed(ends, stage, n),
-        Next::Begin => stands(false, stage.heard, 0, false),
-        Next::Answer => keep(ends.tape, stage.heard, &bytes[0..n]),
-        Next::Wait => stands(false, stage.heard, 0, false),
-        Next::End => stands(false, stage.heard, 0, true),
-        Next::Closed => closed(stage.heard),
-        Next::Broken => broken(source, stage.heard),
-    }
-}
-
-fn source_of(ends: Ends, stage: Stage) -> Source {
-    if stage.replays {
-        return Source::Recording;
-    }
-    if ends.online {
-        return Source::Line;
-    }
-    Source::Input
+    let next = keeping::taken_for(source, is_failed(got), is_terminal(fd, got), n);
+    let kept = act(ends, source, next, stage.heard, &bytes[0..n]);
+    keeping::stage_after(next, stage.heard, n, kept)
 }
 
 fn descriptor(ends: Ends, stage: Stage) -> i32 {
@@ -77,6 +29,10 @@ fn descriptor(ends: Ends, stage: Stage) -> i32 {
         return ends.old;
     }
     ends.input
+}
+
+fn is_failed(got: isize) -> bool {
+    got < 0
 }
 
 // Asked only where no byte came, so that the reason of a read that failed stays.
@@ -87,19 +43,31 @@ fn is_terminal(fd: i32, got: isize) -> bool {
     libc::isatty(fd) == 1
 }
 
-// Bytes of the recording: a long one says how far it is.
-fn replayed(ends: Ends, stage: Stage, n: usize) -> Stage
-    ensures { λ r. ⌜ r .count ≡ n ⌝ }
-{
-    let heard = keeping::grown(stage.heard, n);
-    if keeping::reports(stage.heard, heard) {
-        report(ends, heard);
+// What a read is taken for is done: bytes of the line are kept, a long replay says how far it is, an end says why. Whether bytes that have to
+// be kept are.
+fn act(ends: Ends, source: Source, next: Next, heard: u64, bytes: &[u8]) -> bool {
+    match next {
+        Next::Silent => replayed(ends.tape, heard, bytes.len()),
+        Next::Begin => true,
+        Next::Answer => keep(ends.tape, bytes),
+        Next::Wait => true,
+        Next::End => true,
+        Next::Closed => io::write_all(STDERR_FILENO, b"error: the line is closed\n"),
+        Next::Broken => broken(source),
     }
-    stands(true, heard, n, false)
 }
 
-fn report(ends: Ends, heard: u64) {
-    let size = keeping::size_of(libc::lseek(ends.tape, 0, SEEK_END));
+// Bytes of the recording: a long one says how far it is.
+fn replayed(tape: i32, before: u64, n: usize) -> bool {
+    let heard = keeping::grown(before, n);
+    if keeping::reports(before, heard) {
+        report(tape, heard);
+    }
+    true
+}
+
+fn report(tape: i32, heard: u64) {
+    let size = keeping::size_of(libc::lseek(tape, 0, SEEK_END));
     io::print_decimal(STDERR_FILENO, heard);
     io::write_all(STDERR_FILENO, b" of ");
     io::print_decimal(STDERR_FILENO, size);
@@ -107,50 +75,38 @@ fn report(ends: Ends, heard: u64) {
 }
 
 // Bytes of the line go into the recording before they are heard.
-fn keep(tape: i32, heard: u64, bytes: &[u8]) -> Stage
-    ensures { λ r. ⌜ r .count ≤ length (now (bytes .entry)) ⌝ }
-{
-    let n = bytes.len();
+fn keep(tape: i32, bytes: &[u8]) -> bool {
     if tape < 0 {
-        return stands(false, keeping::grown(heard, n), n, false);
+        return true;
     }
-    if !io::write_all(tape, bytes) {
+    let kept = io::write_all(tape, bytes);
+    if !kept {
         os::fail(b"error: the recording can't be written");
-        return stands(false, heard, 0, true);
     }
-    stands(false, keeping::grown(heard, n), n, false)
+    kept
 }
 
-fn closed(heard: u64) -> Stage
-    ensures { λ r. ⌜ r .count ≡ 0 ⌝ }
-{
-    io::write_all(STDERR_FILENO, b"error: the line is closed\n");
-    stands(false, heard, 0, true)
-}
-
-fn broken(source: Source, heard: u64) -> Stage
-    ensures { λ r. ⌜ r .count ≡ 0 ⌝ }
-{
+fn broken(source: Source) -> bool {
     match source {
         Source::Recording => os::fail(b"error: the recording can't be read"),
         Source::Input => os::fail(b"error: standard input can't be read"),
         Source::Line => os::fail(b"error: the line can't be read"),
     }
-    stands(false, heard, 0, true)
+    false
 }
 
 // What is given back goes out once all that was heard is safe.
-pub fn answer(ends: Ends, stage: Stage, out: &[u8], given: usize) -> bool {
-    if stage.replays {
-        return true;
-    }
-    if given == 0 {
+pub fn answer(ends: Ends, stage: Stage, out: &[u8], given: usize) -> bool
+    ensures { λ r. ⌜ Answered (stage .replays) given (length (now (out .entry))) r ⌝ }
+{
+    if !keeping::goes_out(stage.replays, given) {
         return true;
     }
     if out.len() < given {
         return false;
     }
-    if !is_safe(ends.tape, stage.heard) {
+    let safe = is_safe(ends.tape, stage.heard);
+    if !safe {
         return false;
     }
     write(ends, &out[0..given])

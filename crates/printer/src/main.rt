@@ -1,7 +1,7 @@
 // A device on a line: the raw bytes that it receives on standard input or a LINE, all that it gives back on standard output or the same LINE,
 // as soon as it is there. With a RECORDING it stands where that ends, and keeps there what it hears (LINE).
 use kept::Kept;
-use opening::Ends;
+use options::Ends;
 use reader::FRAME_ROOM;
 use recorder::Part;
 use wire::ANSWER_ROOM;
@@ -28,7 +28,7 @@ fn run(ends: Ends) {
     let mut out = out_room();
     let mut bytes = part_room();
     let mut kept = kept::fresh_kept();
-    let mut stage = passing::first(ends.replays);
+    let mut stage = keeping::first_stage(ends.replays);
     let mut turns = 9223372036854775807u64;
     while turns > 0 {
         stage = passing::read_part(ends, stage, &mut bytes);

@@ -1,5 +1,5 @@
-// A till end told of a list of events, and what it says of each. An event is the length of the buffer lent, then 43h, n, CMD and n bytes: a
-// command; 42h and a byte: a byte from the line; 54h: a timeout.
+// A till end told of a list of events, and what it says of each. The crate `events` says what an event is.
+use events::TILL_ROOM;
 use libc::STDERR_FILENO;
 use libc::STDIN_FILENO;
 use libc::STDOUT_FILENO;
@@ -11,14 +11,11 @@ ghost use mathlib.Core.Path.{_≡_};
 ghost use Prim.Native.Nat.{_<_, _≤_};
 ghost use lib.ListN.{length};
 
-// The longest event: a command with 255 data bytes.
-const EVENT_ROOM: usize = 259;
-
 // Events are read one by one to the end of the input.
 fn main() {
     let mut frame = [0u8; FRAME_ROOM];
     let mut answer = [0u8; FRAME_ROOM];
-    let mut event = [0u8; EVENT_ROOM];
+    let mut event = [0u8; TILL_ROOM];
     let mut buf = [0u8; FRAME_ROOM];
     let mut till = till::fresh();
     let mut events: u64 = 0;
@@ -40,9 +37,9 @@ fn main() {
     }
 }
 
-// Why there are no more events: 0 is the end of the input, 1 an event that is none.
+// Why there are no more events: 1 is the end of the input, 0 an event that is none.
 fn ended(n: usize, events: u64) {
-    if n == 0 {
+    if n == 1 {
         return;
     }
     io::write_all(STDERR_FILENO, b"error: after ");
@@ -53,39 +50,34 @@ fn ended(n: usize, events: u64) {
     );
 }
 
+fn unread() {
+    os::fail(b"error: standard input can't be read");
+}
+
 fn unwritten() {
     os::fail(b"error: standard output can't be written");
 }
 
-// The next event at the front of the buffer, and its length: 0 where the input ends or can't be read, 1 where what comes is none.
+// The next event at the front of the buffer, and its length: 0 where what comes is none, 1 where the input ends or can't be read.
 fn next_event(event: &mut [u8]) -> usize
     requires { ⌜ length (now event) ≡ 259 ⌝ }
     ensures { λ r. ⌜ r < 260 ⌝ }
 {
     if !begun(event) {
-        return 0;
-    }
-    if !more(event, 1, 2) {
         return 1;
     }
-    let kind = event[1];
-    if kind == b'T' {
-        return 2;
+    let mut n = 1;
+    while n < TILL_ROOM {
+        let whole = events::of_till(&event[0..n]);
+        if whole <= n {
+            return whole;
+        }
+        if !more(event, n, whole) {
+            return 0;
+        }
+        n = whole;
     }
-    if !more(event, 2, 3) {
-        return 1;
-    }
-    if kind == b'B' {
-        return 3;
-    }
-    if kind != b'C' {
-        return 1;
-    }
-    let end = wide(event[2]) + 4;
-    if !more(event, 3, end) {
-        return 1;
-    }
-    end
+    n
 }
 
 // The first byte of an event, where one comes.
@@ -94,7 +86,7 @@ fn begun(event: &mut [u8]) -> bool
 {
     let got = libc::read(STDIN_FILENO, &mut event[0..1]);
     if got < 0 {
-        os::fail(b"error: standard input can't be read");
+        unread();
     }
     0 < got
 }
@@ -105,12 +97,6 @@ fn more(event: &mut [u8], from: usize, end: usize) -> bool
     requires { ⌜ end ≤ length (now event) ⌝ }
 {
     io::read_full(STDIN_FILENO, &mut event[from..end]) == end - from
-}
-
-fn wide(b: u8) -> usize
-    ensures { λ r. ⌜ r < 256 ⌝ }
-{
-    b as usize
 }
 
 // One event, its first n bytes. What is lent is the front of the buffer.
@@ -126,8 +112,7 @@ fn happen(
     requires { ⌜ n < 260 ⌝ }
     requires { ⌜ length (now buf) ≡ 256 ⌝ }
 {
-    let end = wide(event[0]);
-    let lent = &mut buf[0..end];
+    let lent = &mut buf[0..events::room_in(event)];
     if n < 3 {
         return till::timeout(till, &*frame, lent);
     }

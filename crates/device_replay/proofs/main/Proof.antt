@@ -23,18 +23,10 @@ returns-2 : tie.Need-returns-2 Inv-loop μ-loop
 returns-2 c = tt
 
 add-events : tie.Need-add-events Inv-loop μ-loop
-add-events c =
-    let told = c .before .before .before .before in
-    let asked = told .before .before .before .before in
-    let test = asked .before .before .before .before .before .before in
-    omega (arith, test .loop-test .taken)
+add-events c = omega arith
 
 loop-less : tie.Need-loop-less Inv-loop μ-loop
-loop-less c =
-    let told = c .before .before .before .before in
-    let asked = told .before .before .before .before in
-    let test = asked .before .before .before .before .before .before in
-    omega (arith, test .loop-test .taken)
+loop-less c = omega arith
 
 returns-3 : tie.Need-returns-3 Inv-loop μ-loop
 returns-3 c = tt
@@ -52,6 +44,7 @@ main-spec =
     (λ c κs. search needs)
     (λ c κs. search needs)
     returns
+    (λ c κs. search needs)
     (λ c. search needs)
     (λ c κs. search needs)
     (λ c. search needs)

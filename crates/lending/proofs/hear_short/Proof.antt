@@ -60,16 +60,16 @@ use Rattle.machine.proofs.Device as D
 use Rattle.machine.proofs.Device.Laws as D′
 use Rattle.machine.proofs.Hearing as N
 use Rattle.machine.proofs.Hearing.Laws as N′
 use Rattle.kept.proofs.Lending.{Lines, avals, aval, lies, holds, Hear, lent, Lent, to-hear, goes-hear}
 use Rattle.device.proofs.Locals.{typeOf}
 use Rattle.device.proofs.hear as hear
 use Rattle.device.proofs.hear.Symbol as hear-def
 use Rattle.device.proofs.hear.Symbol.{name as #device·hear}
 use Rattle.device.proofs.hear.Met as hear-thm
-use Rattle.kept.proofs.hear_short.Key.{name as #kept·hear-short}
-use Rattle.kept.proofs.hear_short as hear-short
-use Rattle.kept.proofs.hear_short.Statement as stated
-use Rattle.kept.proofs.hear_short.Code as code
+use Rattle.lending.proofs.hear_short.Key.{name as #lending·hear-short}
+use Rattle.lending.proofs.hear_short as hear-short
+use Rattle.lending.proofs.hear_short.Statement as stated
+use Rattle.lending.proofs.hear_short.Code as code
 
 abbrev stayed : Stays (hear-short.ended .signature .params) (hear-short.ended .kept)
 stayed = (stay-dropped (plain (λ _. D.the-row)) yes, (gave-ref (0 ∷ []) tt (arrayOf (plain (λ _. u8)) 256), (gave-ref (1 ∷ []) tt (arrayOf (plain (λ _. u8)) 217), (gave-slice (2 ∷ []) tt (plain (λ _. u8)), (stay-dropped (shrSliceOf (3 ∷ []) tt (plain (λ _. u8))) yes, (stay-dropped (plain (λ _. usize)) yes, tt))))))
@@ -230,7 +230,7 @@ pub hear-short-spec : {M : Type 1} → stated.statement M
 unfolding code.routine tablesOf
 hear-short-spec 𝓤 H 𝓜 𝓖 𝓡 =
     entered 𝓤 H (tripleOf 𝓤 H (𝓖 .A) hear-short.signature (hear-short.spec 𝓤 H (𝓖 .A) (𝓜 .mem) (𝓡 .run)))
-    (tables 𝓤 H 𝓜 𝓡 code.env .C) (tables 𝓤 H 𝓜 𝓡 code.env .Λ) #kept·hear-short code.function (code.unfolded 𝓤 H 𝓜 𝓡)
+    (tables 𝓤 H 𝓜 𝓡 code.env .C) (tables 𝓤 H 𝓜 𝓡 code.env .Λ) #lending·hear-short code.function (code.unfolded 𝓤 H 𝓜 𝓡)
     (hear-short-meets 𝓤 H (𝓖 .A) (givenOf 𝓤 H 𝓜 𝓖) (𝓜 .mem) (𝓡 .run) (tablesOf 𝓤 H 𝓜 (tables 𝓤 H 𝓜 𝓡 code.env))
     (cited 𝓤 H (Blank 𝓤 H (𝓖 .A) (𝓜 .mem) (𝓡 .run)) 𝓜 𝓡 code.env #sheet·blank-line blank-line-def.routine code.calls-sheet·blank-line (blank-line-thm.met 𝓤 H 𝓜 𝓖 𝓡))
     (cited 𝓤 H (Hear 𝓤 H (𝓖 .A) (𝓜 .mem) (𝓡 .run)) 𝓜 𝓡 code.env #device·hear hear-def.routine code.calls-device·hear (hear-thm.met 𝓤 H 𝓜 𝓖 𝓡)))

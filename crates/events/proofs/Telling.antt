@@ -1,0 +1,104 @@
+-- How many bytes an event has, a branch of the code each.
+use mathlib.Core.Path.{_≡_, refl, sym, ap, _∙_}
+use mathlib.Core.Bool.{Bool, true, false, cond, _&&_}
+use mathlib.Core.List.{List, [], _∷_}
+use Prim.Native.Nat.{ℕ, _+_, _<_, _≤_}
+use native.Mathlib.Omega.{arith}
+use lib.Dec.{eqb, leb}
+use lib.ListN.{length, getD}
+use borrow.Author.Tests.{eq-eqb, ne-eqb}
+use Rattle.events.specs.Events.{deviceEvent, commandEvent, tillEvent, sizeIn, lentBy}
+use Rattle.events.specs.declared.Lent.{Lent}
+
+-- fewer than two bytes: one more is to come
+pub device-more : (s : List ℕ) → length s < 2 → length s + 1 ≡ deviceEvent s
+device-more [] h = refl
+device-more (a ∷ []) h = refl
+device-more (a ∷ b ∷ s) h = absurd (omega (arith, h))
+
+pub till-more : (s : List ℕ) → length s < 2 → length s + 1 ≡ tillEvent s
+till-more [] h = refl
+till-more (a ∷ []) h = refl
+till-more (a ∷ b ∷ s) h = absurd (omega (arith, h))
+
+-- a device's event by its first two
+abbrev pub isLent : List ℕ → Bool
+isLent s = eqb (getD s 0 0) 0x53 && leb (getD s 1 0) 1
+
+by-two : (s : List ℕ) → 2 ≤ length s → deviceEvent s ≡ cond (eqb (getD s 0 0) 0x42) 2 (cond (isLent s) 5 0)
+by-two [] h = absurd (omega (arith, h))
+by-two (a ∷ []) h = absurd (omega (arith, h))
+by-two (a ∷ b ∷ s) h = refl
+
+pub device-byte : (s : List ℕ) → 2 ≤ length s → getD s 0 0 ≡ 0x42 → 2 ≡ deviceEvent s
+device-byte s h e = sym (by-two s h ∙ ap (λ z. cond z 2 (cond (isLent s) 5 0)) (eq-eqb (getD s 0 0) 0x42 e))
+
+pub device-other : (s : List ℕ) (lent : Bool) → 2 ≤ length s → (getD s 0 0 ≡ 0x42 → ⊥) → isLent s ≡ lent → cond lent 5 0 ≡ deviceEvent s
+device-other s lent h e el = sym (by-two s h ∙ ap (λ z. cond z 2 (cond (isLent s) 5 0)) (ne-eqb (getD s 0 0) 0x42 e) ∙ ap (λ z. cond z 5 0) el)
+
+-- a till end's by its second, and a command's by its third
+abbrev ofKind : (timeout byte command : Bool) → ℕ → ℕ
+ofKind timeout byte command n = cond timeout 2 (cond byte 3 (cond command n 0))
+
+abbrev rest : List ℕ → List ℕ
+rest [] = []
+rest (a ∷ []) = []
+rest (a ∷ b ∷ s) = s
+
+by-kind : (s : List ℕ) → 2 ≤ length s → tillEvent s ≡ ofKind (eqb (getD s 1 0) 0x54) (eqb (getD s 1 0) 0x42) (eqb (getD s 1 0) 0x43) (commandEvent (rest s))
+by-kind [] h = absurd (omega (arith, h))
+by-kind (a ∷ []) h = absurd (omega (arith, h))
+by-kind (a ∷ b ∷ s) h = refl
+
+rest-short : (s : List ℕ) → length s < 3 → commandEvent (rest s) ≡ 3
+rest-short [] h = refl
+rest-short (a ∷ []) h = refl
+rest-short (a ∷ b ∷ []) h = refl
+rest-short (a ∷ b ∷ c ∷ s) h = absurd (omega (arith, h))
+
+rest-long : (s : List ℕ) → 3 ≤ length s → commandEvent (rest s) ≡ getD s 2 0 + 4
+rest-long [] h = absurd (omega (arith, h))
+rest-long (a ∷ []) h = absurd (omega (arith, h))
+rest-long (a ∷ b ∷ []) h = absurd (omega (arith, h))
+rest-long (a ∷ b ∷ c ∷ s) h = refl
+
+module _ (s : List ℕ) (h : 2 ≤ length s) where
+  told : (t b c : Bool) (n : ℕ) → eqb (getD s 1 0) 0x54 ≡ t → eqb (getD s 1 0) 0x42 ≡ b → eqb (getD s 1 0) 0x43 ≡ c → commandEvent (rest s) ≡ n → ofKind t b c n ≡ tillEvent s
+  told t b c n et eb ec en =
+      sym
+      (by-kind s h ∙ ap (λ z. ofKind z (eqb (getD s 1 0) 0x42) (eqb (getD s 1 0) 0x43) (commandEvent (rest s))) et
+      ∙ ap (λ z. ofKind t z (eqb (getD s 1 0) 0x43) (commandEvent (rest s))) eb ∙ ap (λ z. ofKind t b z (commandEvent (rest s))) ec ∙ ap (ofKind t b c) en)
+
+  pub till-timeout : getD s 1 0 ≡ 0x54 → 2 ≡ tillEvent s
+  till-timeout e = told true _ _ _ (eq-eqb (getD s 1 0) 0x54 e) refl refl refl
+
+  pub till-byte : (getD s 1 0 ≡ 0x54 → ⊥) → getD s 1 0 ≡ 0x42 → 3 ≡ tillEvent s
+  till-byte et e = told false true _ _ (ne-eqb (getD s 1 0) 0x54 et) (eq-eqb (getD s 1 0) 0x42 e) refl refl
+
+  pub till-none : (getD s 1 0 ≡ 0x54 → ⊥) → (getD s 1 0 ≡ 0x42 → ⊥) → (getD s 1 0 ≡ 0x43 → ⊥) → 0 ≡ tillEvent s
+  till-none et eb ec = told false false false _ (ne-eqb (getD s 1 0) 0x54 et) (ne-eqb (getD s 1 0) 0x42 eb) (ne-eqb (getD s 1 0) 0x43 ec) refl
+
+  pub till-head : (getD s 1 0 ≡ 0x54 → ⊥) → (getD s 1 0 ≡ 0x42 → ⊥) → getD s 1 0 ≡ 0x43 → length s < 3 → 3 ≡ tillEvent s
+  till-head et eb ec few = told false false true 3 (ne-eqb (getD s 1 0) 0x54 et) (ne-eqb (getD s 1 0) 0x42 eb) (eq-eqb (getD s 1 0) 0x43 ec) (rest-short s few)
+
+  pub till-command : (getD s 1 0 ≡ 0x54 → ⊥) → (getD s 1 0 ≡ 0x42 → ⊥) → getD s 1 0 ≡ 0x43 → 3 ≤ length s → getD s 2 0 + 4 ≡ tillEvent s
+  till-command et eb ec all = told false false true (getD s 2 0 + 4) (ne-eqb (getD s 1 0) 0x54 et) (ne-eqb (getD s 1 0) 0x42 eb) (eq-eqb (getD s 1 0) 0x43 ec) (rest-long s all)
+
+-- what an event lends
+module _ (s : List ℕ) (room lines : ℕ) where
+  abbrev either : (byte buffer : Bool) → (size : ℕ) → Lent
+  either byte buffer size =
+      cond byte (record { room = room; lines = lines; byte = getD s 1 0 })
+      (cond buffer (record { room = size; lines = lines; byte = getD s 4 0 }) (record { room = room; lines = size; byte = getD s 4 0 }))
+
+  pub all-lent : getD s 0 0 ≡ 0x42 → record { room = room; lines = lines; byte = getD s 1 0 } ≡ lentBy s room lines
+  all-lent e = sym (ap (λ z. either z (eqb (getD s 1 0) 0) (sizeIn s)) (eq-eqb (getD s 0 0) 0x42 e))
+
+  pub one-lent : (buffer : Bool) (n : ℕ) → (getD s 0 0 ≡ 0x42 → ⊥) → eqb (getD s 1 0) 0 ≡ buffer → n ≡ sizeIn s → either false buffer n ≡ lentBy s room lines
+  one-lent buffer n e eb en =
+      ap (either false buffer) en ∙ sym (ap (λ z. either z (eqb (getD s 1 0) 0) (sizeIn s)) (ne-eqb (getD s 0 0) 0x42 e) ∙ ap (λ z. either false z (sizeIn s)) eb)
+
+-- no byte says nothing
+pub no-room : (s : List ℕ) → length s ≡ 0 → 0 ≡ getD s 0 0
+no-room [] h = refl
+no-room (a ∷ s) h = absurd (omega (arith, h))

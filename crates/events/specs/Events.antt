@@ -1,0 +1,35 @@
+-- README, *For the apprentice*: the events that the replay programs are told of. DECISIONS 72: what is lent too short.
+use Prim.Native.Nat.{ℕ, _+_, _*_}
+use mathlib.Core.Bool.{cond, _&&_}
+use mathlib.Core.List.{List, [], _∷_}
+use lib.Dec.{eqb, leb}
+use lib.ListN.{getD}
+use Rattle.events.specs.declared.Lent.{Lent}
+
+-- how many bytes an event has, as far as its first ones tell; 0 where it is none. Of a device: 42h and a byte; 53h, 0 or 1, a length of two bytes and a byte
+abbrev pub deviceEvent : List ℕ → ℕ
+deviceEvent [] = 1
+deviceEvent (kind ∷ []) = 2
+deviceEvent (kind ∷ b ∷ bs) = cond (eqb kind 0x42) 2 (cond (eqb kind 0x53 && leb b 1) 5 0)
+
+-- of a till end: the length lent, then 54h; or 42h and a byte; or 43h, n, CMD and n bytes
+abbrev pub commandEvent : List ℕ → ℕ
+commandEvent [] = 3
+commandEvent (n ∷ bs) = n + 4
+
+abbrev pub tillEvent : List ℕ → ℕ
+tillEvent [] = 1
+tillEvent (room ∷ []) = 2
+tillEvent (room ∷ kind ∷ bs) = cond (eqb kind 0x54) 2 (cond (eqb kind 0x42) 3 (cond (eqb kind 0x43) (commandEvent bs) 0))
+
+-- PROTOCOL 2.4: what a device's event lends: all, or one thing at its length, the high byte first: with 0 the buffer, else the sheet
+abbrev pub sizeIn : List ℕ → ℕ
+sizeIn event = getD event 2 0 * 256 + getD event 3 0
+
+abbrev pub lentBy : List ℕ → (room lines : ℕ) → Lent
+lentBy event room lines =
+    cond (eqb (getD event 0 0) 0x42)
+    (record { room = room; lines = lines; byte = getD event 1 0 })
+    (cond (eqb (getD event 1 0) 0)
+    (record { room = sizeIn event; lines = lines; byte = getD event 4 0 })
+    (record { room = room; lines = sizeIn event; byte = getD event 4 0 }))
