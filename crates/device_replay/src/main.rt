@@ -9,9 +9,6 @@ use libc::STDOUT_FILENO;
 use reader::FRAME_ROOM;
 use sheet::MOST_LINES;
 use wire::ANSWER_ROOM;
-ghost use mathlib.Core.Path.{_≡_};
-ghost use Prim.Native.Nat.{_<_, _≤_};
-ghost use lib.ListN.{length};
 
 // Events are read one by one to the end of the input.
 fn main() {

@@ -2,7 +2,6 @@
 // answers. What is decided is in `events`.
 use events::End;
 use libc::STDIN_FILENO;
-ghost use mathlib.Core.Path.{_≡_};
 ghost use Prim.Native.Nat.{_<_, _≤_};
 ghost use lib.ListN.{length};
 ghost use Rattle.feeding.specs.Feeding.{Event};

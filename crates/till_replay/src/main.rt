@@ -8,7 +8,7 @@ use till::Said;
 use till::Till;
 use till::Word;
 ghost use mathlib.Core.Path.{_≡_};
-ghost use Prim.Native.Nat.{_<_, _≤_};
+ghost use Prim.Native.Nat.{_<_};
 ghost use lib.ListN.{length};
 
 // Events are read one by one to the end of the input.

@@ -1,7 +1,7 @@
 -- The loop's invariant: the buffer keeps its length, and what was read of the event stands in it. Each turn reads on. What is handed over is whole by the test that ends the loop.
 use mathlib.Core.Path.{_≡_, sym, ap, _∙_}
 use mathlib.Core.List.{List}
-use Prim.Native.Nat.{ℕ, _+_, _-_, _≤_, _<_}
+use Prim.Native.Nat.{ℕ, _+_, _-_, _≤_}
 use native.Mathlib.Omega.{arith}
 use lib.ListN.{length, take, drop}
 use Rattle.events.specs.Events.{eventOf}
