@@ -1,17 +1,14 @@
 // A device told of a list of events, and what it gives back on each. The crate `events` says what an event is and what it lends.
 use events::DEVICE_ROOM;
+use events::End;
 use events::Lent;
 use kept::Kept;
 use kept::Next;
 use libc::STDERR_FILENO;
-use libc::STDIN_FILENO;
 use libc::STDOUT_FILENO;
 use reader::FRAME_ROOM;
 use sheet::MOST_LINES;
 use wire::ANSWER_ROOM;
-ghost use mathlib.Core.Path.{_≡_};
-ghost use Prim.Native.Nat.{_<_, _≤_};
-ghost use lib.ListN.{length};
 
 // Events are read one by one to the end of the input.
 fn main() {
@@ -22,7 +19,7 @@ fn main() {
     let mut kept = kept::fresh_kept();
     let mut events: u64 = 0;
     while events < 0xFFFFFFFFFFFFFFFF {
-        let n = next_event(&mut event);
+        let n = feeding::next_event(End::Device, &mut event);
         if n < 2 {
             ended(n, events);
             return;
@@ -52,52 +49,8 @@ fn ended(n: usize, events: u64) {
     );
 }
 
-fn unread() {
-    os::fail(b"error: standard input can't be read");
-}
-
 fn unwritten() {
     os::fail(b"error: standard output can't be written");
-}
-
-// The next event at the front of the buffer, and its length: 0 where what comes is none, 1 where the input ends or can't be read.
-fn next_event(event: &mut [u8]) -> usize
-    requires { ⌜ length (now event) ≡ 5 ⌝ }
-{
-    if !begun(event) {
-        return 1;
-    }
-    let mut n = 1;
-    while n < DEVICE_ROOM {
-        let whole = events::of_device(&event[0..n]);
-        if whole <= n {
-            return whole;
-        }
-        if !more(event, n, whole) {
-            return 0;
-        }
-        n = whole;
-    }
-    n
-}
-
-// The first byte of an event, where one comes.
-fn begun(event: &mut [u8]) -> bool
-    requires { ⌜ 0 < length (now event) ⌝ }
-{
-    let got = libc::read(STDIN_FILENO, &mut event[0..1]);
-    if got < 0 {
-        unread();
-    }
-    0 < got
-}
-
-// The bytes of an event behind the first, where all of them come.
-fn more(event: &mut [u8], from: usize, end: usize) -> bool
-    requires { ⌜ from ≤ end ⌝ }
-    requires { ⌜ end ≤ length (now event) ⌝ }
-{
-    io::read_full(STDIN_FILENO, &mut event[from..end]) == end - from
 }
 
 // A byte with this much lent.

@@ -4,6 +4,8 @@ use mathlib.Core.Bool.{cond, _&&_}
 use mathlib.Core.List.{List, [], _∷_}
 use lib.Dec.{eqb, leb}
 use lib.ListN.{getD}
+use Rattle.events.specs.declared.End.{End}
+use Rattle.events.specs.declared.End.the-variants.{Device, Till}
 use Rattle.events.specs.declared.Lent.{Lent}
 
 -- how many bytes an event has, as far as its first ones tell; 0 where it is none. Of a device: 42h and a byte; 53h, 0 or 1, a length of two bytes and a byte
@@ -21,6 +23,10 @@ abbrev pub tillEvent : List ℕ → ℕ
 tillEvent [] = 1
 tillEvent (room ∷ []) = 2
 tillEvent (room ∷ kind ∷ bs) = cond (eqb kind 0x54) 2 (cond (eqb kind 0x42) 3 (cond (eqb kind 0x43) (commandEvent bs) 0))
+
+abbrev pub eventOf : End → List ℕ → ℕ
+eventOf Device event = deviceEvent event
+eventOf Till event = tillEvent event
 
 -- PROTOCOL 2.4: what a device's event lends: all, or one thing at its length, the high byte first: with 0 the buffer, else the sheet
 abbrev pub sizeIn : List ℕ → ℕ

@@ -1,14 +1,20 @@
 // The events that the replay programs are told of: how many bytes one has, and what one lends to a device (README, *For the apprentice*).
 ghost use mathlib.Core.Path.{_≡_};
-ghost use Prim.Native.Nat.{_+_, _*_, _<_, _≤_};
+ghost use Prim.Native.Nat.{_+_, _*_, _<_};
 ghost use lib.ListN.{getD};
-ghost use Rattle.events.specs.Events.{deviceEvent, tillEvent, lentBy};
+ghost use Rattle.events.specs.Events.{deviceEvent, tillEvent, eventOf, lentBy};
 
 // The longest event of a device: one thing lent at a length.
 pub const DEVICE_ROOM: usize = 5;
 
 // The longest event of a till end: a command with 255 data bytes.
 pub const TILL_ROOM: usize = 259;
+
+// Which end is told of events.
+pub enum End {
+    Device,
+    Till,
+}
 
 // What an event lends to a device: bytes of the buffer, lines of the sheet; and its byte.
 pub struct Lent {
@@ -17,10 +23,18 @@ pub struct Lent {
     pub byte: u8,
 }
 
-// How many bytes a device's event has, as far as these first ones tell: as many as there are is a whole event, 0 is none.
-pub fn of_device(event: &[u8]) -> usize
+// How many bytes an event has, as far as these first ones tell: as many as there are is a whole event, 0 is none.
+pub fn length_of(end: End, event: &[u8]) -> usize
+    ensures { λ r. ⌜ r ≡ eventOf end (now (event .entry)) ⌝ }
+{
+    match end {
+        End::Device => of_device(event),
+        End::Till => of_till(event),
+    }
+}
+
+fn of_device(event: &[u8]) -> usize
     ensures { λ r. ⌜ r ≡ deviceEvent (now (event .entry)) ⌝ }
-    ensures { λ r. ⌜ r ≤ 5 ⌝ }
 {
     let n = event.len();
     if n < 2 {
@@ -36,10 +50,8 @@ pub fn of_device(event: &[u8]) -> usize
     0
 }
 
-// The same of a till end's event.
-pub fn of_till(event: &[u8]) -> usize
+fn of_till(event: &[u8]) -> usize
     ensures { λ r. ⌜ r ≡ tillEvent (now (event .entry)) ⌝ }
-    ensures { λ r. ⌜ r ≤ 259 ⌝ }
 {
     let n = event.len();
     if n < 2 {

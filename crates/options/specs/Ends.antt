@@ -1,5 +1,5 @@
 -- LINE 1.1: the descriptors that `printer` works with.
-use mathlib.Core.Bool.{Bool, true, false, cond, not}
+use mathlib.Core.Bool.{true, false, cond, not}
 use lib.Dec.{eqb}
 use lib.IntN.{ℤ, pos, negsuc}
 use Rattle.options.specs.declared.Asked.{Asked}

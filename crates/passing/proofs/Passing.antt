@@ -1,10 +1,9 @@
 -- Laws of a part that is read and an answer that is passed on, a way out of the code each.
 use mathlib.Core.Path.{_≡_, sym, ap, _∙_, subst}
 use mathlib.Core.Bool.{Bool, true, false, cond, _&&_}
-use Prim.Native.Nat.{ℕ, _≤_, _<_}
+use Prim.Native.Nat.{ℕ, _≤_}
 use native.Mathlib.Omega.{arith}
 use lib.Dec.{leb}
-use borrow.Author.Tests.{le-leb, lt-leb}
 use Rattle.keeping.specs.Keeping.{takenFor}
 use Rattle.keeping.specs.Stages.{sourceOf, stageAfter, goesOut}
 use Rattle.keeping.specs.declared.Source.{Source}

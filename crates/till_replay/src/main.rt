@@ -1,14 +1,14 @@
 // A till end told of a list of events, and what it says of each. The crate `events` says what an event is.
+use events::End;
 use events::TILL_ROOM;
 use libc::STDERR_FILENO;
-use libc::STDIN_FILENO;
 use libc::STDOUT_FILENO;
 use reader::FRAME_ROOM;
 use till::Said;
 use till::Till;
 use till::Word;
 ghost use mathlib.Core.Path.{_≡_};
-ghost use Prim.Native.Nat.{_<_, _≤_};
+ghost use Prim.Native.Nat.{_<_};
 ghost use lib.ListN.{length};
 
 // Events are read one by one to the end of the input.
@@ -20,7 +20,7 @@ fn main() {
     let mut till = till::fresh();
     let mut events: u64 = 0;
     while events < 0xFFFFFFFFFFFFFFFF {
-        let n = next_event(&mut event);
+        let n = feeding::next_event(End::Till, &mut event);
         if n < 2 {
             ended(n, events);
             return;
@@ -50,53 +50,8 @@ fn ended(n: usize, events: u64) {
     );
 }
 
-fn unread() {
-    os::fail(b"error: standard input can't be read");
-}
-
 fn unwritten() {
     os::fail(b"error: standard output can't be written");
-}
-
-// The next event at the front of the buffer, and its length: 0 where what comes is none, 1 where the input ends or can't be read.
-fn next_event(event: &mut [u8]) -> usize
-    requires { ⌜ length (now event) ≡ 259 ⌝ }
-    ensures { λ r. ⌜ r < 260 ⌝ }
-{
-    if !begun(event) {
-        return 1;
-    }
-    let mut n = 1;
-    while n < TILL_ROOM {
-        let whole = events::of_till(&event[0..n]);
-        if whole <= n {
-            return whole;
-        }
-        if !more(event, n, whole) {
-            return 0;
-        }
-        n = whole;
-    }
-    n
-}
-
-// The first byte of an event, where one comes.
-fn begun(event: &mut [u8]) -> bool
-    requires { ⌜ 0 < length (now event) ⌝ }
-{
-    let got = libc::read(STDIN_FILENO, &mut event[0..1]);
-    if got < 0 {
-        unread();
-    }
-    0 < got
-}
-
-// The bytes of an event behind the first, where all of them come.
-fn more(event: &mut [u8], from: usize, end: usize) -> bool
-    requires { ⌜ from ≤ end ⌝ }
-    requires { ⌜ end ≤ length (now event) ⌝ }
-{
-    io::read_full(STDIN_FILENO, &mut event[from..end]) == end - from
 }
 
 // One event, its first n bytes. What is lent is the front of the buffer.

@@ -13,14 +13,13 @@ use Rattle.line.specs.declared.Call.{Call}
 use Rattle.line.specs.declared.Call.the-variants.{Quiet, Nak, Again, Order}
 use Rattle.line.specs.declared.Listened.{Listened}
 use Rattle.line.specs.declared.Port.{Port}
-use Rattle.store.specs.Store.{Store}
 use Rattle.carrying.specs.Carrying.{searchIn}
 use Rattle.refusals.specs.Numbers.{reasonNumber}
 use Rattle.refusals.proofs.Numbered.{reason-number}
 use Rattle.machine.specs.Device.{Lent, enough, Machine, storeOf, notTaken}
 use Rattle.machine.specs.Answering.{answering}
 use Rattle.machine.specs.Hearing.{PartHeard, hearing, afterPart, carriedBy}
-use Rattle.machine.proofs.Parts.{at, halves, two-halves}
+use Rattle.machine.proofs.Parts.{at, two-halves}
 use Rattle.witness.specs.Witness.{reasonAmong, witnessed}
 
 module _ (m : Machine) (lent : Lent) (bytes : List ℕ) where

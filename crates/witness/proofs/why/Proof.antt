@@ -1,5 +1,4 @@
 use mathlib.Core.Path.{sym, ap}
-use native.Mathlib.Omega.{arith}
 use denote.Ref.{now}
 use Rattle.machine.specs.Hearing.{carriedBy}
 use Rattle.witness.specs.Witness.{reasonAmong}
