@@ -1,7 +1,6 @@
 // A device told of a list of events, and what it gives back on each. An event is 42h and a byte: all that it asks for is lent; or 53h, k, a
 // length of two bytes and a byte: one thing is lent at this length, of k 0 the buffer in bytes, of k 1 the sheet in lines.
 use kept::Kept;
-use kept::KeptHearing;
 use libc::STDERR_FILENO;
 use libc::STDIN_FILENO;
 use libc::STDOUT_FILENO;
@@ -203,23 +202,12 @@ fn lend_whole(
     requires { ⌜ length (now buf) ≡ 65536 ⌝ }
 {
     let bytes = [byte];
-    let device = kept.device;
-    let sheet = kept.sheet;
-    let heard = kept::hear_kept(device, frame, last, &mut buf[0..room], sheet, &bytes, 0);
-    let hearing = heard.hearing;
-    let given = hearing.given;
+    let next = kept::hear_next(kept, frame, last, &mut buf[0..room], &bytes, 0);
+    let after = next.kept;
     Told {
-        kept: behind(heard),
-        written: say(given.number, given.count, &*buf),
+        kept: after,
+        written: say(next.number, next.count, &*buf),
     }
-}
-
-fn behind(heard: KeptHearing) -> Kept {
-    let hearing = heard.hearing;
-    let given = hearing.given;
-    let device = given.device;
-    let sheet = heard.sheet;
-    Kept { device, sheet }
 }
 
 // The reply number, the count, as many bytes; then 00h, for no text is shown.

@@ -1,5 +1,6 @@
 // A device with its sheet by value, for callers that cannot lend a slice of records (DECISIONS 72).
 use device::hear;
+use line::Call;
 use machine::Device;
 use machine::Hearing;
 use reader::FRAME_ROOM;
@@ -10,7 +11,7 @@ ghost use mathlib.Core.Path.{_≡_};
 ghost use Prim.Native.Nat.{_≤_};
 ghost use lib.ListN.{drop};
 ghost use Rattle.machine.specs.Hearing.{partOf, afterPart};
-ghost use Rattle.kept.specs.ByValue.{freshKept, notHeard};
+ghost use Rattle.kept.specs.ByValue.{machineOf, nextOf, freshKept, notHeard};
 
 // A device and the 512 records of its sheet.
 pub struct Kept {
@@ -18,10 +19,19 @@ pub struct Kept {
     pub sheet: [Line; MOST_LINES],
 }
 
+// A call: the device and its sheet behind it, what the bytes asked for, the reply number, the bytes given back, the bytes taken.
+pub struct Next {
+    pub kept: Kept,
+    pub call: Call,
+    pub number: u64,
+    pub count: usize,
+    pub taken: usize,
+}
+
 // What a call brought, and the sheet behind it.
-pub struct KeptHearing {
-    pub hearing: Hearing,
-    pub sheet: [Line; MOST_LINES],
+struct KeptHearing {
+    hearing: Hearing,
+    sheet: [Line; MOST_LINES],
 }
 
 // A fresh device, with a sheet on which nothing stands.
@@ -37,7 +47,39 @@ pub fn fresh_kept() -> Kept
 }
 
 // What `device::hear` does, the sheet by value.
-pub fn hear_kept(
+pub fn hear_next(
+    kept: Kept,
+    frame: &mut [u8; FRAME_ROOM],
+    last: &mut [u8; ANSWER_ROOM],
+    buf: &mut [u8],
+    bytes: &[u8],
+    from: usize,
+) -> Next
+    ensures { λ r. ⌜ nextOf r (now (frame .exit)) (now (last .exit)) (now (buf .exit)) ≡ afterPart (machineOf kept (now (frame .entry)) (now (last .entry))) (record { buffer = now (buf .entry); lines = 512 }) (drop from (now (bytes .entry))) ⌝ }
+    ensures { λ r. ⌜ r .count ≤ 217 ⌝ }
+{
+    let device = kept.device;
+    let sheet = kept.sheet;
+    let heard = hear_kept(device, frame, last, buf, sheet, bytes, from);
+    let hearing = heard.hearing;
+    let given = hearing.given;
+    let after = given.device;
+    let lines = heard.sheet;
+    let call = hearing.call;
+    Next {
+        kept: Kept {
+            device: after,
+            sheet: lines,
+        },
+        call,
+        number: given.number,
+        count: given.count,
+        taken: hearing.taken,
+    }
+}
+
+// The same, not yet put together: the sheet is lent from a local.
+fn hear_kept(
     device: Device,
     frame: &mut [u8; FRAME_ROOM],
     last: &mut [u8; ANSWER_ROOM],

@@ -1,16 +1,11 @@
 // As much as a receipt and a frame hold, and one more (PROTOCOL 8.1, 8.2).
 use kept::Kept;
+use kept::Next;
 use libc::STDOUT_FILENO;
 use reader::FRAME_ROOM;
 use wire::ANSWER_ROOM;
 use wire::Built;
 use wire::COMMAND_ROOM;
-
-// The device and its sheet behind a command, and the reply number.
-struct Sent {
-    kept: Kept,
-    number: u64,
-}
 
 fn main() {
     word(b"999999.99: ");
@@ -69,28 +64,12 @@ fn send(
     seq: u8,
     code: u8,
     content: &[u8],
-) -> Sent {
+) -> Next {
     let mut buf = [0u8; ANSWER_ROOM];
     let mut command = [0u8; COMMAND_ROOM];
     let built = wire::build::build_command(&mut command, seq, code, content);
-    let n = size_of(built);
-    if COMMAND_ROOM < n {
-        return Sent { kept, number: 8 };
-    }
-    let device = kept.device;
-    let sheet = kept.sheet;
-    let heard = kept::hear_kept(device, frame, last, &mut buf, sheet, &command[0..n], 0);
-    let hearing = heard.hearing;
-    let given = hearing.given;
-    let next = given.device;
-    let lines = heard.sheet;
-    Sent {
-        kept: Kept {
-            device: next,
-            sheet: lines,
-        },
-        number: given.number,
-    }
+    let n = basics::least_size(size_of(built), COMMAND_ROOM);
+    kept::hear_next(kept, frame, last, &mut buf, &command[0..n], 0)
 }
 
 // Command 42 with n data bytes.
