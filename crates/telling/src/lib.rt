@@ -1,230 +1,169 @@
-// What is told of an exchange, and of the books at its end, on standard output.
-pub mod closing;
+// What is told of a command, of its tries and of what the device makes of them (SCRIPTS 7, 8), put into a lent buffer. Each function says the
+// place behind its text, or the buffer's end.
+pub mod answer;
 
 use faults::Fault;
-use libc::STDOUT_FILENO;
 use line::Call;
+use phrases::plain;
+use phrases::sentence;
+use phrases::worded;
 use reasons::Reason;
-use till::Word;
-use words::rows::Words;
-use writing::words::is;
+use sentences::put;
+ghost use mathlib.Core.Path.{_≡_};
+ghost use mathlib.Core.Bool.{cond};
+ghost use mathlib.Core.List.{[], _∷_, _++_};
+ghost use lib.Dec.{eqb};
+ghost use Rattle.sentences.specs.Put.{Put};
+ghost use Rattle.sentences.specs.Filled.{filled};
+ghost use Rattle.phrases.specs.Sentences.{hearsNothing};
+ghost use Rattle.telling.specs.Telling.{headingText, wayText, whyText, doneText, callText};
+ghost use Rattle.telling.specs.Private.{wayRow, fateOf, callRow};
 
-// How many commands were answered, ended unfinished, could not be sent, and were carried out.
-pub struct Tally {
-    pub answered: u64,
-    pub unfinished: u64,
-    pub unsent: u64,
-    pub carried: u64,
+// Rows of the table of sentences.
+const SILENCE: usize = 9;
+
+const DONE: usize = 13;
+
+const WHY: usize = 14;
+
+const LINE_END: usize = 15;
+
+// The sentence for what happens on the way, with its numbers.
+pub struct Fate {
+    pub row: usize,
+    pub place: u64,
+    pub byte: u64,
 }
 
-// The first n bytes, or all where there are fewer.
-pub fn front(s: &[u8], n: usize) -> &[u8] {
-    let end = basics::least_size(n, s.len());
-    &s[..end]
+// SCRIPTS 7: a command as it stands in the script, and what it is called; 8: with what becomes of it behind it on the same line.
+pub fn heading(buf: &mut [u8], at: usize, brief: bool, code: u8, line: &[u8]) -> usize
+    ensures { λ r. ⌜ Put (now (buf .entry)) at (headingText brief code (now (line .entry))) (now (buf .exit)) r ⌝ }
+{
+    let next = put(buf, at, line);
+    let none = [0u64; 1];
+    worded(
+        buf,
+        next,
+        heading_row(brief),
+        words::command_word(code),
+        &none[..0],
+    )
 }
 
-pub fn say(text: &[u8]) {
-    io::write_all(STDOUT_FILENO, text);
-}
-
-pub fn say_number(n: u64) {
-    io::print_decimal(STDOUT_FILENO, n);
-}
-
-fn say_words(words: Words) {
-    let bytes = words.bytes;
-    say(front(&bytes, words.count));
-}
-
-// A sum of stotinki, in leva.
-pub fn say_leva(n: u64) {
-    say_number(n / 100);
-    say(b".");
-    say_number(n / 10 % 10);
-    say_number(n % 10);
-}
-
-// A command as it stands in the script.
-pub fn heading(code: u8, line: &[u8]) {
-    say(line);
-    say(b" (");
-    say_words(words::command_word(code));
-    say(b")\n");
-}
-
-pub fn unsent() {
-    say(b"  till end: cannot be sent (8)\n");
-}
-
-// A try on its way.
-pub fn sends(n: u8, count: usize, fault: Fault) {
-    say(b"  try ");
-    way(n, count, fault);
-}
-
-// Its answer on the way back, where there is one.
-pub fn answers(n: u8, count: usize, fault: Fault) {
-    if count == 0 {
-        return;
+fn heading_row(brief: bool) -> usize
+    ensures { λ r. ⌜ r ≡ cond brief 1 0 ⌝ }
+{
+    if brief {
+        return 1;
     }
-    say(b"  answer ");
-    way(n, count, fault);
+    0
 }
 
-fn way(n: u8, count: usize, fault: Fault) {
-    say_number(n as u64);
-    say(b", ");
-    say_number(count as u64);
-    say(b" byte");
-    if count != 1 {
-        say(b"s");
+// A try on its way, or its answer on the way back: its number, how many bytes it has, and what happens to it.
+pub fn way(buf: &mut [u8], at: usize, answer: bool, n: u8, count: usize, fault: Fault) -> usize
+    ensures { λ r. ⌜ Put (now (buf .entry)) at (wayText answer n count fault) (now (buf .exit)) r ⌝ }
+{
+    let figures = [n as u64, count as u64];
+    let next = sentence(buf, at, way_row(answer, count), b"", &figures);
+    let fate = fate_of(fault);
+    let happens = [fate.place, fate.byte];
+    sentence(buf, next, fate.row, b"", &happens)
+}
+
+fn way_row(answer: bool, count: usize) -> usize
+    ensures { λ r. ⌜ r ≡ wayRow answer (eqb count 1) ⌝ }
+{
+    if answer {
+        if count == 1 {
+            return 4;
+        }
+        return 5;
     }
-    say(b": ");
+    if count == 1 {
+        return 2;
+    }
+    3
+}
+
+fn fate_of(fault: Fault) -> Fate
+    ensures { λ r. ⌜ r ≡ fateOf fault ⌝ }
+{
     match fault {
-        Fault::Nothing => say(b"arrives whole\n"),
-        Fault::Lost => say(b"lost, nothing arrives\n"),
-        Fault::Becomes { place, byte } => {
-            say(b"byte ");
-            say_number(place as u64);
-            say(b" becomes ");
-            io::print_hex(STDOUT_FILENO, byte as u64, 2);
-            say(b"\n");
-        }
+        Fault::Nothing => Fate {
+            row: 6,
+            place: 0,
+            byte: 0,
+        },
+        Fault::Becomes { place, byte } => Fate {
+            row: 7,
+            place: place as u64,
+            byte: byte as u64,
+        },
+        Fault::Lost => Fate {
+            row: 8,
+            place: 0,
+            byte: 0,
+        },
     }
 }
 
-pub fn silence() {
-    say(b"  device: hears nothing\n");
+// Nothing arrives at the device.
+pub fn silence(buf: &mut [u8], at: usize) -> usize
+    ensures { λ r. ⌜ Put (now (buf .entry)) at (filled hearsNothing [] []) (now (buf .exit)) r ⌝ }
+{
+    plain(buf, at, SILENCE, b"")
 }
 
-// What the device made of some bytes.
-pub fn call(call: Call, number: u64, taken: usize, reason: Reason) {
+// What the device made of some bytes, by the reply number and the first reason against a command.
+pub fn call(
+    buf: &mut [u8],
+    at: usize,
+    call: Call,
+    number: u64,
+    taken: usize,
+    reason: Reason,
+) -> usize
+    ensures { λ r. ⌜ Put (now (buf .entry)) at (callText call number taken reason) (now (buf .exit)) r ⌝ }
+{
+    let row = call_row(call);
+    if row == DONE {
+        return done(buf, at, number, reason);
+    }
+    let figures = [taken as u64];
+    sentence(buf, at, row, b"", &figures)
+}
+
+fn call_row(call: Call) -> usize
+    ensures { λ r. ⌜ r ≡ callRow call ⌝ }
+{
     match call {
-        Call::Quiet => {
-            say(b"  device: ");
-            say_number(taken as u64);
-            say(b" bytes, nothing to say\n");
-        }
-        Call::Nak => say(b"  device: broken frame (5), NAK\n"),
-        Call::Again => say(b"  device: repeat (6), the last answer again\n"),
+        Call::Quiet => 10,
+        Call::Nak => 11,
+        Call::Again => 12,
         Call::Order {
             seq: _,
             code: _,
             count: _,
-        } => carried_out(number, reason),
+        } => 13,
     }
 }
 
-// A command carried out, or the refusal and its reason.
-fn carried_out(number: u64, reason: Reason) {
-    say(b"  device: carried out: ");
-    say_words(words::reply_word(number));
-    say(b" (");
-    say_number(number);
-    say(b")");
-    if number != 0 {
-        say(b", ");
-        say_words(words::reason_word(reason));
+// A command carried out, or refused.
+fn done(buf: &mut [u8], at: usize, number: u64, reason: Reason) -> usize
+    ensures { λ r. ⌜ Put (now (buf .entry)) at (doneText number reason) (now (buf .exit)) r ⌝ }
+{
+    let figures = [number];
+    let next = worded(buf, at, DONE, words::reply_word(number), &figures);
+    why(buf, next, number, reason)
+}
+
+// The reason for a refusal.
+fn why(buf: &mut [u8], at: usize, number: u64, reason: Reason) -> usize
+    ensures { λ r. ⌜ Put (now (buf .entry)) at (whyText number reason) (now (buf .exit)) r ⌝ }
+{
+    if number == 0 {
+        return plain(buf, at, LINE_END, b"");
     }
-    say(b"\n");
-}
-
-// What the till end says of the try. An answer's data and its status stand at the front of `buf`.
-pub fn says(word: Word, buf: &[u8]) {
-    match word {
-        Word::SendAgain(_) => say(b"  till end: Send again\n"),
-        Word::Answered(n) => answered(n, buf),
-        Word::Unfinished(_) => say(
-            b"  till end: UNFINISHED, no answer in five tries; it may be done all the same\n",
-        ),
-        _ => say(b"  till end: nothing\n"),
-    }
-}
-
-// The data of an answer; behind it stand six status bytes.
-fn answered(n: usize, buf: &[u8]) {
-    let end = basics::least_size(n, buf.len());
-    if end < 6 {
-        return;
-    }
-    let at = end - 6;
-    say(b"  till end: Answered ");
-    say_number(verdict::verdict_in(buf[at], buf[at + 1]) as u64);
-    say(b" \"");
-    say_data(front(buf, at));
-    say(b"\"");
-    status(&buf[at..]);
-    say(b"\n");
-}
-
-// Data as a script writes it (SCRIPTS 4): what is no plain letter as two hexadecimal digits.
-fn say_data(bytes: &[u8]) {
-    let mut i = 0;
-    while i < bytes.len() {
-        say_byte(bytes[i]);
-        i += 1;
-    }
-}
-
-fn say_byte(byte: u8) {
-    if (0x20 <= byte) & (byte <= 0x7E) & (byte != b'\\') {
-        let letter = [byte];
-        say(&letter);
-        return;
-    }
-    say(b"\\x");
-    io::print_hex(STDOUT_FILENO, byte as u64, 2);
-}
-
-// The six status bytes, each by its bits.
-fn status(bytes: &[u8]) {
-    if bytes.len() < 6 {
-        return;
-    }
-    bits(0, bytes[0]);
-    bits(1, bytes[1]);
-    bits(2, bytes[2]);
-    bits(3, bytes[3]);
-    bits(4, bytes[4]);
-    bits(5, bytes[5]);
-}
-
-// The bits of a status byte that are set and not always so.
-fn bits(place: usize, byte: u8) {
-    bit(place, 0, byte);
-    bit(place, 1, byte / 2);
-    bit(place, 2, byte / 4);
-    bit(place, 3, byte / 8);
-    bit(place, 4, byte / 16);
-    bit(place, 5, byte / 32);
-    bit(place, 6, byte / 64);
-}
-
-fn bit(place: usize, number: usize, above: u8) {
-    if above % 2 == 0 {
-        return;
-    }
-    flag(words::status_word(place, number));
-}
-
-fn flag(words: Words) {
-    let bytes = words.bytes;
-    if is(front(&bytes, words.count), b"always") {
-        return;
-    }
-    say(b", ");
-    say_words(words);
-}
-
-// How it ended, at the end of the script.
-pub fn total(tally: Tally) {
-    say(b"commands: ");
-    say_number(tally.answered);
-    say(b" answered, ");
-    say_number(tally.unfinished);
-    say(b" unfinished, ");
-    say_number(tally.unsent);
-    say(b" not sent; carried out by the device: ");
-    say_number(tally.carried);
-    say(b"\n");
+    let none = [0u64; 1];
+    worded(buf, at, WHY, words::reason_word(reason), &none[..0])
 }

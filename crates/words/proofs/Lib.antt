@@ -1,1 +1,3 @@
-mod Table
+pub mod Table
+pub mod Reasons
+pub mod Short

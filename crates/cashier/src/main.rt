@@ -1,0 +1,64 @@
+// A script (docs/SCRIPTS.md) sent over a real line: cashier [-k] -l LINE. One line a command; it stops at one that ends UNFINISHED, unless
+// told -k.
+mod serial;
+mod tell;
+
+use libc::STDERR_FILENO;
+use reader::FRAME_ROOM;
+use writing::words::is;
+
+fn main() {
+    let words = os::arg_count();
+    if words == 3 {
+        if named(1, b"-l") {
+            open(2, false);
+            return;
+        }
+    }
+    if words == 4 {
+        if named(1, b"-k") & named(2, b"-l") {
+            open(3, true);
+            return;
+        }
+    }
+    io::write_all(
+        STDERR_FILENO,
+        b"error: usage: cashier [-k] -l LINE <SCRIPT\n",
+    );
+}
+
+// Whether an argument is this word.
+fn named(i: usize, word: &[u8]) -> bool {
+    let mut buf = [0u8; 8];
+    let n = os::arg(i, &mut buf);
+    is(&buf[..n], word)
+}
+
+// The line that an argument names.
+fn open(i: usize, keep: bool) {
+    let mut path = io::buffer();
+    let n = os::arg(i, &mut path);
+    let fd = os::open_update(&path[..n]);
+    if fd < 0 {
+        os::fail(b"error: the line can't be opened for reading and writing");
+        return;
+    }
+    play_all(fd, keep);
+    libc::close(fd);
+}
+
+// Line after line, until the script ends or something stops it.
+fn play_all(fd: i32, keep: bool) {
+    let mut sent = [0u8; FRAME_ROOM];
+    let mut answer = [0u8; FRAME_ROOM];
+    let mut out = [0u8; FRAME_ROOM];
+    let mut desk = serial::fresh();
+    let mut turns: u64 = 0;
+    while turns < 0xFFFFFFFFFFFFFFFF {
+        if !desk.on {
+            return;
+        }
+        desk = serial::play(desk, fd, keep, &mut sent, &mut answer, &mut out);
+        turns += 1;
+    }
+}

@@ -1,0 +1,202 @@
+// The till end and a real line (PROTOCOL 7.1): a frame is written, and what comes is read.
+use crate::tell;
+use lines::LINE_ROOM;
+use reader::FRAME_ROOM;
+use script::Act;
+use script::MOST_CONTENT;
+use sentences::front;
+use till::MOST_TRIES;
+use till::Till;
+use till::Word;
+
+// An answer has 217 bytes at most: where so many reads brought none, none comes.
+const MOST_READS: u16 = 1000;
+
+// SCRIPTS 8: a fault in the script, and a command that ended UNFINISHED.
+const NO_FAULTS: u8 = 6;
+
+const UNFINISHED: u8 = 7;
+
+// The till end and what it said last, the lines of the script so far, and whether it goes on. The arrays are lent.
+pub struct Desk {
+    pub till: Till,
+    pub word: Word,
+    pub lines: u64,
+    pub on: bool,
+}
+
+pub fn fresh() -> Desk {
+    let till = till::fresh();
+    Desk {
+        till,
+        word: Word::Idle,
+        lines: 0,
+        on: true,
+    }
+}
+
+// One line of the script.
+pub fn play(
+    desk: Desk,
+    fd: i32,
+    keep: bool,
+    sent: &mut [u8; FRAME_ROOM],
+    answer: &mut [u8; FRAME_ROOM],
+    out: &mut [u8; FRAME_ROOM],
+) -> Desk {
+    let mut line = [0u8; LINE_ROOM];
+    let mut content = [0u8; MOST_CONTENT];
+    let mut after = desk;
+    let typed = lines::input::next_line(&mut line);
+    if !typed.there {
+        after.on = false;
+        return after;
+    }
+    after.lines = tally::one_more(desk.lines);
+    if LINE_ROOM < typed.count {
+        return stopped(after, 3);
+    }
+    let act = script::read_line(front(&line, typed.count), &mut content);
+    match act {
+        Act::Nothing => after,
+        Act::Wrong(why) => stopped(after, why),
+        Act::Happens {
+            answer: _,
+            attempt: _,
+            fault: _,
+        } => stopped(after, NO_FAULTS),
+        Act::Command { code, count } => {
+            tell::heading(code, front(&line, typed.count));
+            let begun = command(after, sent, code, front(&content, count), out);
+            let done = tries(begun, fd, &*sent, answer, out);
+            ended(done, keep, &*out)
+        }
+    }
+}
+
+// A line that stops the script.
+fn stopped(desk: Desk, why: u8) -> Desk {
+    tell::wrong(desk.lines, why);
+    let mut after = desk;
+    after.on = false;
+    after
+}
+
+// A command behind its last try: it is told, and UNFINISHED stops all but what was told -k.
+fn ended(desk: Desk, keep: bool, out: &[u8; FRAME_ROOM]) -> Desk {
+    let word = desk.word;
+    tell::says(word, out);
+    if let Word::Unfinished(_) = word {
+        if !keep {
+            return stopped(desk, UNFINISHED);
+        }
+    }
+    desk
+}
+
+// The desk behind an event at the till end.
+fn behind(desk: Desk, till: Till, word: Word) -> Desk {
+    Desk {
+        till,
+        word,
+        lines: desk.lines,
+        on: desk.on,
+    }
+}
+
+// The till end is told of a command.
+fn command(
+    desk: Desk,
+    sent: &mut [u8; FRAME_ROOM],
+    code: u8,
+    content: &[u8],
+    out: &mut [u8],
+) -> Desk {
+    let said = till::command(desk.till, sent, code, content, out);
+    let till = said.till;
+    let word = said.word;
+    behind(desk, till, word)
+}
+
+// Try after try, as long as the till end has a frame to send.
+fn tries(
+    begun: Desk,
+    fd: i32,
+    sent: &[u8; FRAME_ROOM],
+    answer: &mut [u8; FRAME_ROOM],
+    out: &mut [u8; FRAME_ROOM],
+) -> Desk {
+    let mut desk = begun;
+    let mut n: u8 = 0;
+    while n < MOST_TRIES {
+        let word = desk.word;
+        if !sends(word) {
+            return desk;
+        }
+        write(fd, &*out, till::count(word));
+        desk = wait(desk, fd, sent, answer, out);
+        n += 1;
+    }
+    desk
+}
+
+// Whether a frame stands in the buffer.
+fn sends(word: Word) -> bool {
+    match word {
+        Word::Waiting(_) => true,
+        Word::SendAgain(_) => true,
+        _ => false,
+    }
+}
+
+// A frame that can't be written is one that nobody hears.
+fn write(fd: i32, out: &[u8; FRAME_ROOM], count: usize) {
+    if !io::write_all(fd, front(out, count)) {
+        os::fail(b"the line can't be written");
+    }
+}
+
+// What comes is heard until the till end speaks.
+fn wait(
+    begun: Desk,
+    fd: i32,
+    sent: &[u8; FRAME_ROOM],
+    answer: &mut [u8; FRAME_ROOM],
+    out: &mut [u8; FRAME_ROOM],
+) -> Desk {
+    let mut desk = begun;
+    let mut reads = MOST_READS;
+    while 0 < reads {
+        reads -= 1;
+        desk = hear(desk, fd, reads == 0, sent, answer, out);
+        let word = desk.word;
+        if !exchange::is_waiting(word) {
+            return desk;
+        }
+    }
+    desk
+}
+
+// One read: where it brings nothing, and where no other is made, what came is all that comes in time (PROTOCOL 7.5).
+fn hear(
+    desk: Desk,
+    fd: i32,
+    last: bool,
+    sent: &[u8; FRAME_ROOM],
+    answer: &mut [u8; FRAME_ROOM],
+    out: &mut [u8],
+) -> Desk {
+    let mut came = [0u8; FRAME_ROOM];
+    let got = libc::read(fd, &mut came);
+    let n = io::count(got, &came);
+    if last | (n == 0) {
+        let said = exchange::hear_back(desk.till, sent, answer, front(&came, n), out);
+        let till = said.till;
+        let word = said.word;
+        return behind(desk, till, word);
+    }
+    let said = exchange::hear_some(desk.till, sent, answer, front(&came, n), out);
+    let till = said.till;
+    let word = said.word;
+    behind(desk, till, word)
+}

@@ -1,0 +1,43 @@
+// Lines on standard input, one by one, so that they may be typed.
+use crate::LINE_ROOM;
+use crate::gather;
+use libc::STDIN_FILENO;
+
+// A line that was read: how many bytes it has, of which no more than 1,200 stand in the room that was lent, and whether there is one. Behind the
+// last line, and where the input can't be read, there is none.
+pub struct Typed {
+    pub count: usize,
+    pub there: bool,
+}
+
+// The next line: its bytes go to the front of `line`. Of a line that is too long no more than one byte too many is read.
+pub fn next_line(line: &mut [u8]) -> Typed {
+    let mut count: usize = 0;
+    let mut left = LINE_ROOM + 1;
+    while 0 < left {
+        let mut byte = [0u8; 1];
+        let got = libc::read(STDIN_FILENO, &mut byte);
+        if got < 1 {
+            return Typed {
+                count,
+                there: ended(got, count),
+            };
+        }
+        let gathered = gather(line, count, &byte);
+        count = gathered.count;
+        if gathered.whole {
+            return Typed { count, there: true };
+        }
+        left -= 1;
+    }
+    Typed { count, there: true }
+}
+
+// The end of the input: what stands before it is a line too.
+fn ended(got: isize, count: usize) -> bool {
+    if got < 0 {
+        os::fail(b"error: standard input can't be read");
+        return false;
+    }
+    0 < count
+}
