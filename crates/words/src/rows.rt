@@ -31,26 +31,33 @@ pub fn words_of(src: &[u8]) -> Words
 pub fn row(table: &[u8], k: usize) -> Words
     ensures { λ r. ⌜ r ≡ wordsOf (rowAt k (now (table .entry))) ⌝ }
 {
+    words_of(row_of(table, k))
+}
+
+// The same as a part of the table.
+pub fn row_of(table: &[u8], k: usize) -> &[u8]
+    ensures { λ r. ⌜ now r ≡ rowAt k (now (table .entry)) ⌝ }
+{
+    let at = row_place(table, k);
+    let part = &table[at..];
+    let end = text::find(part, 10);
+    &part[..end]
+}
+
+// Where the k-th row begins; the end of the table where there is none.
+fn row_place(table: &[u8], k: usize) -> usize
+    ensures { λ r. ⌜ (r ≤ length (now (table .entry))) × (upTo 10 (drop r (now (table .entry))) ≡ rowAt k (now (table .entry))) ⌝ }
+{
     let mut at = 0;
     let mut left = k;
     while at < table.len() {
         if left == 0 {
-            return row_from(table, at);
+            return at;
         }
         at = behind_row(table, at);
         left -= 1;
     }
-    words_of(b"")
-}
-
-// The row that begins at a place.
-fn row_from(table: &[u8], at: usize) -> Words
-    requires { ⌜ at ≤ length (now table) ⌝ }
-    ensures { λ r. ⌜ r ≡ wordsOf (upTo 10 (drop at (now (table .entry)))) ⌝ }
-{
-    let part = &table[at..];
-    let end = text::find(part, 10);
-    words_of(&part[..end])
+    at
 }
 
 // The place behind that row.
