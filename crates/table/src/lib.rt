@@ -3,15 +3,14 @@ use books::Books;
 use faults::Fault;
 use faults::Faults;
 use kept::Kept;
-use kept::Next;
 use line::Call;
 use reader::FRAME_ROOM;
-use reasons::Reason;
 use telling::Tally;
 use telling::front;
 use till::Till;
 use till::Word;
 use wire::ANSWER_ROOM;
+use witness::Seen;
 
 // PROTOCOL 7.6: the tries of a command.
 const TRIES: u8 = 5;
@@ -281,57 +280,30 @@ fn hear_more(heard: Heard, bytes: &[u8]) -> Heard {
     let kept = printer.kept;
     let mut frame = printer.frame;
     let mut last = printer.last;
-    let called = kept::hear_next(kept, &mut frame, &mut last, &mut buf, bytes, heard.place);
-    let call = called.call;
-    let reason = why(kept, call, frame);
-    telling::call(call, called.number, called.taken, reason);
-    noted(heard, called, frame, last, buf)
-}
-
-// The first reason against a command, by the books and the sheet before it.
-fn why(kept: Kept, call: Call, frame: [u8; FRAME_ROOM]) -> Reason {
-    let device = kept.device;
-    let books = device.books;
-    let sheet = kept.sheet;
-    match call {
-        Call::Order {
-            seq: _,
-            code,
-            count,
-        } => {
-            let parsed = command::parse(code, front(content(&frame), count));
-            let said = matching::match_kept(sheet, carrying::search_in(books, parsed));
-            refusals::reason_of(books, said, parsed)
-        }
-        _ => Reason::Done,
-    }
-}
-
-// An order's data stands in the frame from its fourth byte on.
-fn content(frame: &[u8]) -> &[u8] {
-    if frame.len() < 3 {
-        return frame;
-    }
-    &frame[3..]
+    let seen = witness::see(kept, &mut frame, &mut last, &mut buf, bytes, heard.place);
+    let call = seen.call;
+    let reason = seen.reason;
+    telling::call(call, seen.number, seen.taken, reason);
+    noted(heard, seen, frame, last, buf)
 }
 
 // What one call gave back goes behind what the ones before gave.
 fn noted(
     heard: Heard,
-    called: Next,
+    seen: Seen,
     frame: [u8; FRAME_ROOM],
     last: [u8; ANSWER_ROOM],
     buf: [u8; ANSWER_ROOM],
 ) -> Heard {
-    let call = called.call;
-    let kept = called.kept;
+    let call = seen.call;
+    let kept = seen.kept;
     let mut back = heard.back;
-    text::put_bytes(&mut back, heard.count, front(&buf, called.count));
+    text::put_bytes(&mut back, heard.count, front(&buf, seen.count));
     Heard {
         printer: Printer { kept, frame, last },
-        place: further(heard.place, called.taken),
+        place: further(heard.place, seen.taken),
         back,
-        count: further(heard.count, called.count),
+        count: further(heard.count, seen.count),
         carried: more(heard.carried, carried_by(call)),
     }
 }
