@@ -1,1 +1,1 @@
-mod Table
+pub mod Table
