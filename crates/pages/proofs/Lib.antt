@@ -1,1 +1,1 @@
-pub mod Putting
+mod Letters

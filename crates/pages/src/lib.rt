@@ -1,94 +1,196 @@
-// Bytes as they are shown: in hexadecimal, and as letters of a text or of a page (HTML).
-ghost use mathlib.Core.Path.{_≡_};
-ghost use Prim.Native.Nat.{_+_, _≤_};
-ghost use lib.ListN.{length};
-ghost use lib.Seq.{sets};
-ghost use Rattle.pages.specs.Pages.{hexDigit, hexOf, shownOf, letterOf, each, firstOf, Put};
+// The lines of a telling, as a text or as one page (HTML), put into a lent buffer one behind the other (EXPLAIN 2).
+use captions::put_kind;
+use captions::put_saying;
+use items::Kind;
+use items::Value;
+use sentences::put;
+use sentences::put_data;
+use sentences::put_digits;
+use sentences::put_hex;
+use sentences::put_leva;
+use sentences::put_number;
+ghost use mathlib.Core.Bool.{cond};
+ghost use mathlib.Core.List.{[], _∷_};
+ghost use Rattle.sentences.specs.Put.{Put};
+ghost use Rattle.pages.specs.Pages.{each, hexOf, pageLetter, shownAs, thousandths, bytesFrom, valueText, opened, closed, sectioned, namedBy, titled, headed, ended};
 
-const DIGITS: [u8; 16] = *b"0123456789ABCDEF";
-
-// How long the longest letter of a page is, and a byte in hexadecimal with the space before it.
-pub const LETTER_ROOM: usize = 5;
-
-pub const HEX_ROOM: usize = 3;
-
-// The last hexadecimal digit of a number.
-fn hex_digit(n: u8) -> u8
-    ensures { λ r. ⌜ r ≡ hexDigit n ⌝ }
+// Bytes in hexadecimal, a space before each.
+pub fn put_hexes(buf: &mut [u8], at: usize, bytes: &[u8]) -> usize
+    ensures { λ r. ⌜ Put (now (buf .entry)) at (each hexOf (now (bytes .entry))) (now (buf .exit)) r ⌝ }
 {
-    let i = (n % 16) as usize;
-    DIGITS[i]
-}
-
-// Bytes in hexadecimal at the front of a buffer, as many as it has room for; how many bytes of it they take.
-pub fn put_hex(buf: &mut [u8], bytes: &[u8]) -> usize
-    ensures { λ r. ⌜ Put (now (buf .entry)) (each hexOf (firstOf 3 (now (buf .entry)) (now (bytes .entry)))) (now (buf .exit)) r ⌝ }
-{
-    let n = basics::least_size(bytes.len(), buf.len() / HEX_ROOM);
+    let mut place = basics::least_size(at, buf.len());
     let mut i = 0;
-    let mut at = 0;
-    while i < n {
-        let b = bytes[i];
-        let three = [b' ', hex_digit(b / 16), hex_digit(b)];
-        text::put_bytes(buf, at, &three);
-        at += HEX_ROOM;
+    while i < bytes.len() {
+        place = put_byte(buf, place, bytes[i]);
         i += 1;
     }
-    at
+    place
 }
 
-// Bytes as letters at the front of a buffer, as many as it surely has room for; how many bytes of it they take.
-pub fn put_letters(buf: &mut [u8], html: bool, bytes: &[u8]) -> usize
-    ensures { λ r. ⌜ Put (now (buf .entry)) (each (letterOf html) (firstOf 5 (now (buf .entry)) (now (bytes .entry)))) (now (buf .exit)) r ⌝ }
+fn put_byte(buf: &mut [u8], at: usize, b: u8) -> usize
+    ensures { λ r. ⌜ Put (now (buf .entry)) at (hexOf b) (now (buf .exit)) r ⌝ }
 {
-    let n = basics::least_size(bytes.len(), buf.len() / LETTER_ROOM);
+    let next = put(buf, at, b" ");
+    put_hex(buf, next, b as u64)
+}
+
+// Bytes as letters: as a script writes data, and in a page with its marks by their names.
+pub fn put_letters(buf: &mut [u8], at: usize, html: bool, bytes: &[u8]) -> usize
+    ensures { λ r. ⌜ Put (now (buf .entry)) at (shownAs html (now (bytes .entry))) (now (buf .exit)) r ⌝ }
+{
+    if html {
+        return put_page_letters(buf, at, bytes);
+    }
+    put_data(buf, at, bytes)
+}
+
+fn put_page_letters(buf: &mut [u8], at: usize, bytes: &[u8]) -> usize
+    ensures { λ r. ⌜ Put (now (buf .entry)) at (each pageLetter (now (bytes .entry))) (now (buf .exit)) r ⌝ }
+{
+    let mut place = basics::least_size(at, buf.len());
     let mut i = 0;
-    let mut at = 0;
-    while i < n {
-        at = put_letter(buf, at, html, bytes[i]);
+    while i < bytes.len() {
+        place = put_letter(buf, place, bytes[i]);
         i += 1;
     }
-    at
+    place
 }
 
 // One letter; three would be read as marks of the page itself.
-fn put_letter(buf: &mut [u8], at: usize, html: bool, b: u8) -> usize
-    requires { ⌜ at + 5 ≤ length (now buf) ⌝ }
-    ensures { λ r. ⌜ (now (buf .exit) ≡ sets (now (buf .entry)) at (letterOf html b)) × (r ≡ at + length (letterOf html b)) ⌝ }
+fn put_letter(buf: &mut [u8], at: usize, b: u8) -> usize
+    ensures { λ r. ⌜ Put (now (buf .entry)) at (pageLetter b) (now (buf .exit)) r ⌝ }
 {
-    if !html {
-        return put_shown(buf, at, b);
-    }
     if b == 0x26 {
-        return put_text(buf, at, b"&amp;");
+        return put(buf, at, b"&amp;");
     }
     if b == 0x3C {
-        return put_text(buf, at, b"&lt;");
+        return put(buf, at, b"&lt;");
     }
     if b == 0x3E {
-        return put_text(buf, at, b"&gt;");
+        return put(buf, at, b"&gt;");
     }
-    put_shown(buf, at, b)
+    let one = [b];
+    put_data(buf, at, &one)
 }
 
-// A text at a place of the buffer, and the place behind it.
-fn put_text(buf: &mut [u8], at: usize, src: &[u8]) -> usize
-    requires { ⌜ at + length (now src) ≤ length (now buf) ⌝ }
-    ensures { λ r. ⌜ (now (buf .exit) ≡ sets (now (buf .entry)) at (now (src .entry))) × (r ≡ at + length (now (src .entry))) ⌝ }
+// One of two texts.
+fn put_either(buf: &mut [u8], at: usize, html: bool, page: &[u8], plain: &[u8]) -> usize
+    ensures { λ r. ⌜ Put (now (buf .entry)) at (cond html (now (page .entry)) (now (plain .entry))) (now (buf .exit)) r ⌝ }
 {
-    text::put_bytes(buf, at, src);
-    at + src.len()
+    if html {
+        return put(buf, at, page);
+    }
+    put(buf, at, plain)
 }
 
-// A letter of a text; any byte that no keyboard has in braces, by its digits.
-fn put_shown(buf: &mut [u8], at: usize, b: u8) -> usize
-    requires { ⌜ at + 5 ≤ length (now buf) ⌝ }
-    ensures { λ r. ⌜ (now (buf .exit) ≡ sets (now (buf .entry)) at (shownOf b)) × (r ≡ at + length (shownOf b)) ⌝ }
+// A line begins with its label; in a page it is a row of a table.
+pub fn put_open(buf: &mut [u8], at: usize, html: bool, label: &[u8]) -> usize
+    ensures { λ r. ⌜ Put (now (buf .entry)) at (opened html (now (label .entry))) (now (buf .exit)) r ⌝ }
 {
-    if (0x20 <= b) & (b < 0x7F) {
-        let one = [b];
-        return put_text(buf, at, &one);
+    let first = put_either(buf, at, html, b"<tr><th>", b"  ");
+    let second = put(buf, first, label);
+    put_either(buf, second, html, b"</th><td>", b":")
+}
+
+// The end of a line.
+pub fn put_close(buf: &mut [u8], at: usize, html: bool) -> usize
+    ensures { λ r. ⌜ Put (now (buf .entry)) at (closed html) (now (buf .exit)) r ⌝ }
+{
+    put_either(buf, at, html, b"</td></tr>\n", b"\n")
+}
+
+// A value; nothing where there is none.
+pub fn put_value(buf: &mut [u8], at: usize, value: Value) -> usize
+    ensures { λ r. ⌜ Put (now (buf .entry)) at (valueText value) (now (buf .exit)) r ⌝ }
+{
+    match value {
+        Value::Nothing => put(buf, at, b""),
+        Value::Number(n) => put_number(buf, at, n),
+        Value::Sum(n) => put_leva(buf, at, n),
+        Value::Thousandths(n) => put_thousandths(buf, at, n),
+        Value::Digits { width, number } => put_digits(buf, at, width, number),
+        Value::Letter(b) => put_one(buf, at, b),
+        Value::Byte(b) => put_hex(buf, at, b as u64),
+        Value::Bytes { least, most } => put_between(buf, at, least, most),
+        Value::InData => put(buf, at, b"09, 0a, 20 to ff"),
+        Value::Said(saying) => put_saying(buf, at, saying),
     }
-    let four = [0x7B, hex_digit(b / 16), hex_digit(b), 0x7D];
-    put_text(buf, at, &four)
+}
+
+// A quantity.
+fn put_thousandths(buf: &mut [u8], at: usize, n: u64) -> usize
+    ensures { λ r. ⌜ Put (now (buf .entry)) at (thousandths n) (now (buf .exit)) r ⌝ }
+{
+    let whole = put_number(buf, at, n / 1000);
+    let point = put(buf, whole, b".");
+    put_digits(buf, point, 3, n)
+}
+
+fn put_one(buf: &mut [u8], at: usize, b: u8) -> usize
+    ensures { λ r. ⌜ Put (now (buf .entry)) at (b ∷ []) (now (buf .exit)) r ⌝ }
+{
+    let one = [b];
+    put(buf, at, &one)
+}
+
+fn put_between(buf: &mut [u8], at: usize, least: u8, most: u8) -> usize
+    ensures { λ r. ⌜ Put (now (buf .entry)) at (bytesFrom least most) (now (buf .exit)) r ⌝ }
+{
+    let first = put_hex(buf, at, least as u64);
+    let to = put(buf, first, b" to ");
+    put_hex(buf, to, most as u64)
+}
+
+// A frame begins with its offset, its name and what became of it; in a page with a section and its table.
+pub fn put_heading(
+    buf: &mut [u8],
+    at: usize,
+    html: bool,
+    kind: Kind,
+    offset: u64,
+    name: &[u8],
+) -> usize
+    ensures { λ r. ⌜ Put (now (buf .entry)) at (headed html kind offset (now (name .entry))) (now (buf .exit)) r ⌝ }
+{
+    let section = put_section(buf, at, html, kind);
+    let title = put_title(buf, section, kind, offset, name);
+    put_either(buf, title, html, b"</h2><table>\n", b"\n")
+}
+
+fn put_section(buf: &mut [u8], at: usize, html: bool, kind: Kind) -> usize
+    ensures { λ r. ⌜ Put (now (buf .entry)) at (sectioned html kind) (now (buf .exit)) r ⌝ }
+{
+    if !html {
+        return put(buf, at, b"");
+    }
+    let begun = put(buf, at, b"<section class='");
+    let named = put_kind(buf, begun, kind);
+    put(buf, named, b"'><h2>")
+}
+
+fn put_title(buf: &mut [u8], at: usize, kind: Kind, offset: u64, name: &[u8]) -> usize
+    ensures { λ r. ⌜ Put (now (buf .entry)) at (titled kind offset (now (name .entry))) (now (buf .exit)) r ⌝ }
+{
+    let word = put(buf, at, b"byte ");
+    let number = put_number(buf, word, offset);
+    let colon = put(buf, number, b": ");
+    let named = put_name(buf, colon, name);
+    put_kind(buf, named, kind)
+}
+
+fn put_name(buf: &mut [u8], at: usize, name: &[u8]) -> usize
+    ensures { λ r. ⌜ Put (now (buf .entry)) at (namedBy (now (name .entry))) (now (buf .exit)) r ⌝ }
+{
+    if name.len() == 0 {
+        return put(buf, at, b"");
+    }
+    let named = put(buf, at, name);
+    put(buf, named, b": ")
+}
+
+// The end of a frame's lines.
+pub fn put_end(buf: &mut [u8], at: usize, html: bool) -> usize
+    ensures { λ r. ⌜ Put (now (buf .entry)) at (ended html) (now (buf .exit)) r ⌝ }
+{
+    put_either(buf, at, html, b"</table></section>\n", b"\n")
 }
