@@ -1,6 +1,6 @@
 -- What is told of a frame beside its bytes (EXPLAIN 2).
 use Prim.Native.Nat.{ℕ, _+_}
-use mathlib.Core.Bool.{cond}
+use mathlib.Core.Bool.{Bool, true, false, cond}
 use lib.Dec.{eqb}
 use Rattle.line.specs.declared.Call.{Call}
 use Rattle.line.specs.declared.Call.the-variants.{Quiet, Nak, Again, Order}
@@ -14,7 +14,7 @@ use Rattle.items.specs.declared.Label.the-variants.{Frame, Came, CameAne
 use Rattle.items.specs.declared.Saying.{Saying}
 use Rattle.items.specs.declared.Saying.the-variants as saying
 use Rattle.items.specs.declared.Value.{Value}
-use Rattle.items.specs.declared.Value.the-variants.{Nothing, Number, Byte, Bytes, InData, Said}
+use Rattle.items.specs.declared.Value.the-variants.{Nothing, Number, Sum, Thousandths, Digits, Letter, Byte, Bytes, InData, Said}
 use Rattle.items.specs.declared.Item.{Item}
 use Rattle.items.specs.declared.Four.{Four}
 
@@ -24,6 +24,19 @@ item label value = record { label = label; value = value }
 -- no line
 abbrev pub noItem : Item
 noItem = item Frame Nothing
+
+-- whether a value is none
+abbrev pub isNone : Value → Bool
+isNone Nothing = true
+isNone (Number n) = false
+isNone (Sum n) = false
+isNone (Thousandths n) = false
+isNone (Digits width number) = false
+isNone (Letter b) = false
+isNone (Byte b) = false
+isNone (Bytes least most) = false
+isNone InData = false
+isNone (Said saying) = false
 
 abbrev pub four : Item → Item → Item → Item → Four
 four a b c d = record { first = a; second = b; third = c; fourth = d }

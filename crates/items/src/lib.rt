@@ -8,7 +8,7 @@ ghost use mathlib.Core.Path.{_≡_};
 ghost use mathlib.Core.Bool.{cond};
 ghost use lib.Dec.{eqb};
 ghost use Rattle.items.specs.declared.Kind.the-variants.{Done, Refused};
-ghost use Rattle.items.specs.Items.{noItem, kindOf, placeItems, brokenItems, cutItems, cameItem, partSaying, expectedValue};
+ghost use Rattle.items.specs.Items.{noItem, isNone, kindOf, placeItems, brokenItems, cutItems, cameItem, partSaying, expectedValue};
 
 // What a line is about.
 pub enum Label {
@@ -230,5 +230,26 @@ pub fn no_item() -> Item
     Item {
         label: Label::Frame,
         value: Value::Nothing,
+    }
+}
+
+// Whether there is a value, and so a line.
+pub fn is_none(value: Value) -> bool
+    ensures { λ r. ⌜ r ≡ isNone value ⌝ }
+{
+    match value {
+        Value::Nothing => true,
+        Value::Number(_) => false,
+        Value::Sum(_) => false,
+        Value::Thousandths(_) => false,
+        Value::Digits {
+            width: _,
+            number: _,
+        } => false,
+        Value::Letter(_) => false,
+        Value::Byte(_) => false,
+        Value::Bytes { least: _, most: _ } => false,
+        Value::InData => false,
+        Value::Said(_) => false,
     }
 }
