@@ -60,7 +60,7 @@ fn width(n: u64) -> usize
 }
 
 // A field of so many digits.
-fn put_digits(buf: &mut [u8], at: usize, width: usize, n: u64) -> usize
+pub fn put_digits(buf: &mut [u8], at: usize, width: usize, n: u64) -> usize
     ensures { λ r. ⌜ Put (now (buf .entry)) at (digits width n) (now (buf .exit)) r ⌝ }
 {
     text::put_field(buf, at, width, n);

@@ -1,0 +1,43 @@
+use Prim.Native.Nat.{_≤_}
+use native.Mathlib.Omega.{arith}
+use borrow.Author.Needs.{needs}
+use Rattle.explain.proofs.tell.Statement.{statement}
+use Rattle.explain.proofs.tell.Tie as tie
+
+abbrev Inv-loop : tie.InvT-loop
+Inv-loop fd html bytes₀ frame₀ last₀ shadow₀ kept₀ trail₀ count₀ from₀ turns₀ bytes frame last shadow kept trail count from turns = turns ≤ turns
+
+abbrev μ-loop : tie.MeasureT-loop
+μ-loop fd html bytes₀ frame₀ last₀ shadow₀ kept₀ trail₀ count₀ from₀ turns₀ bytes frame last shadow kept trail count from turns = turns
+
+sub-turns : tie.Need-sub-turns Inv-loop μ-loop
+sub-turns c = omega (arith, c .before .before .before .before .before .before .before .before .before .before .before .before .before .before .before .before .before .before .loop-test .taken)
+
+loop-less : tie.Need-loop-less Inv-loop μ-loop
+loop-less c = omega (arith, c .before .before .before .before .before .before .before .before .before .before .before .before .before .before .before .before .before .before .loop-test .taken)
+
+pub tell-spec : {M : Type 1} → statement M
+tell-spec =
+    tie.close
+    (tie.spec
+    Inv-loop
+    μ-loop
+    (λ c κs. search needs)
+    (λ c κs. search needs)
+    (λ c κs. search needs)
+    (λ c. search needs)
+    (λ c κs. search needs)
+    (λ c κs. search needs)
+    (λ c. search needs)
+    (λ c κs. search needs)
+    (λ c. search needs)
+    (λ c κs. search needs)
+    (λ c κs. search needs)
+    (λ c. search needs)
+    (λ c κs. search needs)
+    (λ c κs. search needs)
+    (λ c κs. search needs)
+    sub-turns
+    loop-less
+    (λ c. search needs)
+    (λ c. search needs))
