@@ -83,17 +83,14 @@ pub fn next(
 fn play(desk: Desk, sent: &mut [u8; FRAME_ROOM], out: &mut [u8]) -> Desk {
     let mut line = [0u8; LINE_ROOM];
     let mut content = [0u8; MOST_CONTENT];
+    let next = lines::input::next_act(&mut line, &mut content);
     let mut after = desk;
-    let typed = lines::input::next_line(&mut line);
-    if !typed.there {
+    if !next.there {
         after.phase = ENDED;
         return after;
     }
     after.lines = tally::one_more(desk.lines);
-    if LINE_ROOM < typed.count {
-        return stopped(after, 3);
-    }
-    let act = script::read_line(front(&line, typed.count), &mut content);
+    let act = next.act;
     match act {
         Act::Nothing => after,
         Act::Wrong(why) => stopped(after, why),
@@ -103,7 +100,7 @@ fn play(desk: Desk, sent: &mut [u8; FRAME_ROOM], out: &mut [u8]) -> Desk {
             fault,
         } => happens(after, answer, attempt, fault),
         Act::Command { code, count } => {
-            tell::heading(code, front(&line, typed.count));
+            tell::heading(code, front(&line, next.count));
             command(after, sent, code, front(&content, count), out)
         }
     }
@@ -208,9 +205,7 @@ fn bring_back(
 ) -> Desk {
     let mut came = [0u8; BACK_ROOM];
     let fault = faults::fault_of(desk.faults, true, desk.attempt);
-    if 0 < desk.given {
-        tell::way(true, desk.attempt, desk.given, fault);
-    }
+    tell::answer(desk.attempt, desk.given, fault);
     let got = faults::arrive(front(back, desk.given), fault, &mut came);
     let said = exchange::hear_back(desk.till, sent, answer, front(&came, got), out);
     let word = said.word;

@@ -28,6 +28,13 @@ pub fn way(answer: bool, attempt: u8, count: usize, fault: Fault) {
     say(&text, n);
 }
 
+// An answer on its way back, where there is one.
+pub fn answer(attempt: u8, count: usize, fault: Fault) {
+    if 0 < count {
+        way(true, attempt, count, fault);
+    }
+}
+
 pub fn silence() {
     let mut text = [0u8; TEXT_ROOM];
     let n = telling::silence(&mut text, 0);

@@ -46,17 +46,14 @@ pub fn play(
 ) -> Desk {
     let mut line = [0u8; LINE_ROOM];
     let mut content = [0u8; MOST_CONTENT];
+    let next = lines::input::next_act(&mut line, &mut content);
     let mut after = desk;
-    let typed = lines::input::next_line(&mut line);
-    if !typed.there {
+    if !next.there {
         after.on = false;
         return after;
     }
     after.lines = tally::one_more(desk.lines);
-    if LINE_ROOM < typed.count {
-        return stopped(after, 3);
-    }
-    let act = script::read_line(front(&line, typed.count), &mut content);
+    let act = next.act;
     match act {
         Act::Nothing => after,
         Act::Wrong(why) => stopped(after, why),
@@ -66,7 +63,7 @@ pub fn play(
             fault: _,
         } => stopped(after, NO_FAULTS),
         Act::Command { code, count } => {
-            tell::heading(code, front(&line, typed.count));
+            tell::heading(code, front(&line, next.count));
             let begun = command(after, sent, code, front(&content, count), out);
             let done = tries(begun, fd, &*sent, answer, out);
             ended(done, keep, &*out)

@@ -2,16 +2,41 @@
 use crate::LINE_ROOM;
 use crate::gather;
 use libc::STDIN_FILENO;
+use script::Act;
+use sentences::front;
 
-// A line that was read: how many bytes it has, of which no more than 1,200 stand in the room that was lent, and whether there is one. Behind the
-// last line, and where the input can't be read, there is none.
+// SCRIPTS 6: the number of a line that is too long.
+const TOO_LONG: u8 = 3;
+
+// A line that was read: how many bytes it has, and whether there is one. Behind the last line, and where the input can't be read, there is none.
 pub struct Typed {
     pub count: usize,
     pub there: bool,
 }
 
-// The next line: its bytes go to the front of `line`. Of a line that is too long no more than one byte too many is read.
-pub fn next_line(line: &mut [u8]) -> Typed {
+// What the next line says, and the line that says it.
+pub struct Next {
+    pub act: Act,
+    pub count: usize,
+    pub there: bool,
+}
+
+// The next line goes to the front of `line`, the data of its command to that of `content`.
+pub fn next_act(line: &mut [u8], content: &mut [u8]) -> Next {
+    let typed = next_line(line);
+    let mut act = Act::Wrong(TOO_LONG);
+    if typed.count <= LINE_ROOM {
+        act = script::read_line(front(line, typed.count), content);
+    }
+    Next {
+        act,
+        count: typed.count,
+        there: typed.there,
+    }
+}
+
+// Of a line that is too long no more than one byte too many is read.
+fn next_line(line: &mut [u8]) -> Typed {
     let mut count: usize = 0;
     let mut left = LINE_ROOM + 1;
     while 0 < left {
