@@ -117,10 +117,11 @@ pub fn begin(html: bool) {
             STDOUT_FILENO,
             b"<!DOCTYPE html>\n<html lang=\"en\"><head><meta charset=\"utf-8\"><title>A recording explained</title>\n<style>\n\
             body { font: 20px/1.45 sans-serif; max-width: 60em; margin: 1em auto; padding: 0 1em; color: #111; background: #fff }\n\
-            section { border-left: .5em solid #1b6e3c; padding-left: .8em; margin: 1.4em 0; break-inside: avoid }\n\
+            section { border-left: .5em solid #1b6e3c; padding-left: .8em; margin: 1.4em 0 }\n\
             .refused { border-color: #b25400 }\n.broken { border-color: #b00020 }\n.repeat { border-color: #1f4e9e }\n\
             .outside, .ends { border-color: #666; border-left-style: dashed }\n\
-            h2 { font-size: 1.15em; margin: 0 0 .3em }\n\
+            h2 { font-size: 1.15em; margin: 0 0 .3em; break-after: avoid }\n\
+            tr { break-inside: avoid }\n\
             table { border-collapse: collapse; width: 100% }\n\
             th, td { text-align: left; vertical-align: top; padding: .1em .6em .1em 0; border-bottom: 1px solid #ccc }\n\
             th { width: 30%; font-weight: normal; color: #333 }\n\
