@@ -49,7 +49,7 @@ pub fn call(call: Call, number: u64, taken: usize, reason: Reason) {
 
 pub fn says(word: Word, got: &[u8]) {
     let mut text = [0u8; TEXT_ROOM];
-    let n = telling::answer::says(&mut text, 0, false, word, got);
+    let n = saying::says(&mut text, 0, false, word, got);
     say(&text, n);
 }
 

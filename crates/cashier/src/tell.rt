@@ -16,7 +16,7 @@ pub fn heading(code: u8, line: &[u8]) {
 // What the till end says at last.
 pub fn says(word: Word, got: &[u8]) {
     let mut text = [0u8; TEXT_ROOM];
-    let n = telling::answer::says(&mut text, 0, true, word, got);
+    let n = saying::says(&mut text, 0, true, word, got);
     io::write_all(STDOUT_FILENO, front(&text, n));
 }
 

@@ -15,15 +15,10 @@ pub fn sentence(buf: &mut [u8], at: usize, k: usize, word: &[u8], figures: &[u64
     ensures { λ r. ⌜ Put (now (buf .entry)) at (filled (getD sentences k []) (now (word .entry)) (now (figures .entry))) (now (buf .exit)) r ⌝ }
 {
     let row = row_of(
-        b" (~)|\n\
-        \x20(~): \n\
-        \x20 try #, # byte: \n\
-        \x20 try #, # bytes: \n\
-        \x20 answer #, # byte: \n\
-        \x20 answer #, # bytes: \n\
-        arrives whole|\n\
-        byte # becomes %|\n\
-        lost, nothing arrives|\n\
+        b" (~)|\n\x20(~): \n\
+        \x20 try #, # byte: \n\x20 try #, # bytes: \n\
+        \x20 answer #, # byte: \n\x20 answer #, # bytes: \n\
+        arrives whole|\nbyte # becomes %|\nlost, nothing arrives|\n\
         \x20 device: hears nothing|\n\
         \x20 device: # bytes, nothing to say|\n\
         \x20 device: broken frame (5), NAK|\n\

@@ -9,31 +9,16 @@ use Rattle.faults.specs.declared.Fault.{Fault}
 use Rattle.faults.specs.declared.Fault.the-variants as faults
 use Rattle.line.specs.declared.Call.{Call}
 use Rattle.line.specs.declared.Call.the-variants.{Quiet, Nak, Again, Order}
-use Rattle.till.specs.declared.Word.{Word}
-use Rattle.till.specs.declared.Word.the-variants.{Idle, Waiting, SendAgain, Answered, Unfinished, TooShort, NotSent}
 use Rattle.reasons.specs.declared.Reason.{Reason}
-use Rattle.till.specs.Words.{countOf}
 use Rattle.words.specs.Words.{wordsOf}
 use Rattle.words.specs.declared.rows.Words.{Words}
-use Rattle.words.specs.Names.{statusWord}
-use Rattle.words.proofs.Short.{in-front, status-short}
+use Rattle.words.proofs.Short.{in-front}
 use Rattle.sentences.specs.Filled.{filled}
 use Rattle.phrases.specs.Sentences.{sentences, headingLong, headingBrief}
 use Rattle.telling.specs.declared.Fate.{Fate}
 use Rattle.telling.specs.Telling.{fateText, wayOf, doneText, callText}
-use Rattle.telling.specs.Answers.{namedText, flagText, sayOf, isAnswered, answerText, saysText}
-use Rattle.telling.specs.Private.{wayRow, fateOf, callRow, sayRow}
-
-pub same-fill : {s t v w f g : List ℕ} → s ≡ t → v ≡ w → f ≡ g → filled s v f ≡ filled t w g
-same-fill e h i = cc
-
-row-of : (k n : ℕ) → k ≡ n → getD sentences k [] ≡ getD sentences n []
-row-of k n e = ap (λ x. getD sentences x []) e
-
--- with a word of the tables
-pub worded-as : (k : ℕ) (w : Words) (l figures : List ℕ) → w ≡ wordsOf l → length l ≤ 64
-    → filled (getD sentences k []) (take (w .count) (w .bytes)) figures ≡ filled (getD sentences k []) l figures
-worded-as k w l figures e h = same-fill refl (in-front w l e h) refl
+use Rattle.telling.specs.Private.{wayRow, fateOf, callRow}
+use Rattle.phrases.proofs.Wording.{same-fill, row-of}
 
 heading-row : (brief : Bool) → getD sentences (cond brief 1 0) [] ≡ cond brief headingBrief headingLong
 heading-row true = refl
@@ -73,39 +58,3 @@ module _ (number taken : ℕ) (reason : Reason) where
   call-as Nak k e f = same-fill (row-of k 11 e) refl refl
   call-as Again k e f = same-fill (row-of k 12 e) refl refl
   call-as (Order seq code count) k e f = absurd (f e)
-
-say-row : (brief : Bool) (w : Word) → getD sentences (sayRow brief w) [] ≡ sayOf brief w
-say-row true Idle = refl
-say-row true (Waiting n) = refl
-say-row true (SendAgain n) = refl
-say-row true (Answered n) = refl
-say-row true (Unfinished n) = refl
-say-row true TooShort = refl
-say-row true NotSent = refl
-say-row false Idle = refl
-say-row false (Waiting n) = refl
-say-row false (SendAgain n) = refl
-say-row false (Answered n) = refl
-say-row false (Unfinished n) = refl
-say-row false TooShort = refl
-say-row false NotSent = refl
-
-say-as : (brief : Bool) (w : Word) (k : ℕ) → k ≡ sayRow brief w → filled (getD sentences k []) [] [] ≡ filled (sayOf brief w) [] []
-say-as brief w k e = same-fill (row-of k (sayRow brief w) e ∙ say-row brief w) refl refl
-
--- a bit that is set, by its word
-pub flag-as : (set : Bool) (place bit : ℕ) (w : Words) → w ≡ wordsOf (statusWord place bit) → (word : List ℕ) → word ≡ take (w .count) (w .bytes) → set ≡ true
-    → namedText word ≡ cond set (flagText place bit) []
-flag-as set place bit w e word f on =
-    ap namedText (f ∙ in-front w (statusWord place bit) e (status-short place bit)) ∙ ap (λ b. cond b (flagText place bit) []) (sym on)
-
--- the till end's word: an answer, or any other
-module _ (brief : Bool) (w : Word) (got : List ℕ) where
-  pub says-answered : (all : List ℕ) {n : ℕ} {t : Bool} → all ≡ take n got → n ≡ countOf w → t ≡ isAnswered w → t ≡ true → answerText brief all ≡ saysText brief w got
-  says-answered all e f g h =
-      ap (answerText brief) (e ∙ ap (λ k. take k got) f)
-      ∙ ap (λ b. cond b (answerText brief (take (countOf w) got)) (filled (sayOf brief w) [] [])) (sym (sym g ∙ h))
-
-  pub says-other : (k : ℕ) {t : Bool} → k ≡ sayRow brief w → t ≡ isAnswered w → t ≡ false → filled (getD sentences k []) [] [] ≡ saysText brief w got
-  says-other k e g h =
-      say-as brief w k e ∙ ap (λ b. cond b (answerText brief (take (countOf w) got)) (filled (sayOf brief w) [] [])) (sym (sym g ∙ h))

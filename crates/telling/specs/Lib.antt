@@ -1,3 +1,2 @@
 pub mod Telling
-pub mod Answers
 pub mod Private

@@ -1,12 +1,10 @@
 -- Which row of the table a sentence is. No promise to a caller rests on it.
-use Prim.Native.Nat.{ℕ, _+_}
+use Prim.Native.Nat.{ℕ}
 use mathlib.Core.Bool.{Bool, cond}
 use Rattle.faults.specs.declared.Fault.{Fault}
 use Rattle.faults.specs.declared.Fault.the-variants as faults
 use Rattle.line.specs.declared.Call.{Call}
 use Rattle.line.specs.declared.Call.the-variants.{Quiet, Nak, Again, Order}
-use Rattle.till.specs.declared.Word.{Word}
-use Rattle.till.specs.declared.Word.the-variants.{Idle, Waiting, SendAgain, Answered, Unfinished, TooShort, NotSent}
 use Rattle.telling.specs.declared.Fate.{Fate}
 
 abbrev pub wayRow : (answer one : Bool) → ℕ
@@ -22,15 +20,3 @@ callRow Quiet = 10
 callRow Nak = 11
 callRow Again = 12
 callRow (Order seq code count) = 13
-
-abbrev pub longRow : Word → ℕ
-longRow Idle = 25
-longRow (Waiting count) = 25
-longRow (SendAgain count) = 19
-longRow (Answered count) = 25
-longRow (Unfinished tries) = 21
-longRow TooShort = 25
-longRow NotSent = 23
-
-abbrev pub sayRow : (brief : Bool) → Word → ℕ
-sayRow brief word = cond brief (longRow word + 1) (longRow word)

@@ -1,7 +1,5 @@
 // What is told of a command, of its tries and of what the device makes of them (SCRIPTS 7, 8), put into a lent buffer. Each function says the
 // place behind its text, or the buffer's end.
-pub mod answer;
-
 use faults::Fault;
 use line::Call;
 use phrases::plain;

@@ -2,7 +2,7 @@ use mathlib.Core.List.{[], _∷_}
 use Rattle.words.proofs.Short.{reply-short}
 use Rattle.words.specs.Names.{replyWord}
 use Rattle.sentences.proofs.Putting.{put-as, put-then}
-use Rattle.telling.proofs.Choosing.{worded-as}
+use Rattle.phrases.proofs.Wording.{worded-as}
 use borrow.Author.Needs.{needs}
 use Rattle.telling.proofs.done.Statement.{statement}
 use Rattle.telling.proofs.done.Tie as tie

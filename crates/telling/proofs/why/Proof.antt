@@ -4,7 +4,7 @@ use mathlib.Core.List.{[]}
 use Rattle.words.proofs.Short.{reason-short}
 use Rattle.words.specs.Names.{reasonWord}
 use Rattle.sentences.proofs.Putting.{put-as}
-use Rattle.telling.proofs.Choosing.{worded-as}
+use Rattle.phrases.proofs.Wording.{worded-as}
 use borrow.Author.Needs.{needs}
 use Rattle.telling.proofs.why.Statement.{statement}
 use Rattle.telling.proofs.why.Tie as tie

@@ -5,10 +5,10 @@ use lib.ListN.{length}
 use lib.Seq.{length-take-le}
 use borrow.Author.Tests.{lt-ltb}
 use Rattle.sentences.proofs.Putting.{put-as, put-then}
-use Rattle.telling.proofs.Flags.{answer-as}
+use Rattle.saying.proofs.Flags.{answer-as}
 use borrow.Author.Needs.{needs}
-use Rattle.telling.proofs.answer.answered.Statement.{statement}
-use Rattle.telling.proofs.answer.answered.Tie as tie
+use Rattle.saying.proofs.answered.Statement.{statement}
+use Rattle.saying.proofs.answered.Tie as tie
 
 returns : tie.Need-returns
 returns c =

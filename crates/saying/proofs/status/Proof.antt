@@ -4,10 +4,10 @@ use Prim.Native.Nat.{_-_, _≤_}
 use native.Mathlib.Omega.{arith}
 use lib.ListN.{length, drop}
 use Rattle.sentences.proofs.Filling.{Rest, rest-start, rest-turn, rest-done}
-use Rattle.telling.specs.Answers.{statusText}
-use Rattle.telling.proofs.Flags.{status-next, status-done}
-use Rattle.telling.proofs.answer.status.Statement.{statement}
-use Rattle.telling.proofs.answer.status.Tie as tie
+use Rattle.saying.specs.Answers.{statusText}
+use Rattle.saying.proofs.Flags.{status-next, status-done}
+use Rattle.saying.proofs.status.Statement.{statement}
+use Rattle.saying.proofs.status.Tie as tie
 
 abbrev Inv-loop : tie.InvT-loop
 Inv-loop buf₀ at bytes end₀ i₀ buf end i = (i ≤ length bytes) × Rest buf₀ at (statusText 0 bytes) (statusText i (drop i bytes)) buf end

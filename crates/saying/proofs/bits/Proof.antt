@@ -2,10 +2,10 @@ use borrow.Author.Needs.{needs}
 use Prim.Native.Nat.{_-_, _≤_}
 use native.Mathlib.Omega.{arith}
 use Rattle.sentences.proofs.Filling.{Rest, rest-start, rest-turn, rest-done}
-use Rattle.telling.specs.Answers.{bitsText}
-use Rattle.telling.proofs.Flags.{bits-next, bits-done}
-use Rattle.telling.proofs.answer.bits.Statement.{statement}
-use Rattle.telling.proofs.answer.bits.Tie as tie
+use Rattle.saying.specs.Answers.{bitsText}
+use Rattle.saying.proofs.Flags.{bits-next, bits-done}
+use Rattle.saying.proofs.bits.Statement.{statement}
+use Rattle.saying.proofs.bits.Tie as tie
 
 abbrev Inv-loop : tie.InvT-loop
 Inv-loop buf₀ at place byte end₀ above₀ bit₀ buf end above bit = (bit ≤ 7) × Rest buf₀ at (bitsText 7 0 place byte) (bitsText (7 - bit) bit place above) buf end

@@ -2,10 +2,10 @@ use mathlib.Core.List.{[], _∷_}
 use Rattle.words.proofs.Short.{reply-short}
 use Rattle.words.specs.Names.{replyWord}
 use Rattle.sentences.proofs.Putting.{put-as, put-then}
-use Rattle.telling.proofs.Choosing.{worded-as}
+use Rattle.phrases.proofs.Wording.{worded-as}
 use borrow.Author.Needs.{needs}
-use Rattle.telling.proofs.answer.opening.Statement.{statement}
-use Rattle.telling.proofs.answer.opening.Tie as tie
+use Rattle.saying.proofs.opening.Statement.{statement}
+use Rattle.saying.proofs.opening.Tie as tie
 
 returns : tie.Need-returns
 returns c =

@@ -1,4 +1,4 @@
-// What the till end says of a try, and what an answer tells (SCRIPTS 7, 8).
+// What the till end says of a try, and what an answer tells (SCRIPTS 7, 8), put into a lent buffer.
 use basics::least_size;
 use phrases::plain;
 use phrases::sentence;
@@ -13,8 +13,8 @@ ghost use mathlib.Core.Bool.{cond};
 ghost use mathlib.Core.List.{[], _∷_, _++_};
 ghost use lib.Dec.{eqb};
 ghost use Rattle.sentences.specs.Put.{Put};
-ghost use Rattle.telling.specs.Answers.{isAnswered, saysText, answerText, openingText, namedText, flagText, bitsText, statusText};
-ghost use Rattle.telling.specs.Private.{longRow, sayRow};
+ghost use Rattle.saying.specs.Answers.{isAnswered, saysText, answerText, openingText, namedText, flagText, bitsText, statusText};
+ghost use Rattle.saying.specs.Private.{longRow, sayRow};
 
 const LINE_END: usize = 15;
 

@@ -1,7 +1,7 @@
 use Rattle.sentences.proofs.Putting.{put-as, put-then}
 use borrow.Author.Needs.{needs}
-use Rattle.telling.proofs.answer.named_flag.Statement.{statement}
-use Rattle.telling.proofs.answer.named_flag.Tie as tie
+use Rattle.saying.proofs.named_flag.Statement.{statement}
+use Rattle.saying.proofs.named_flag.Tie as tie
 
 returns : tie.Need-returns
 returns c =

@@ -13,7 +13,7 @@ use Rattle.text.proofs.Cutting.{to-end}
 use Rattle.verdict.specs.Verdict.{verdictIn}
 use Rattle.sentences.specs.Filled.{filled}
 use Rattle.phrases.specs.Sentences.{lineEnd}
-use Rattle.telling.specs.Answers.{flagText, bitsText, statusText, openingText, answerAt, answerText}
+use Rattle.saying.specs.Answers.{flagText, bitsText, statusText, openingText, answerAt, answerText}
 
 pub bits-next : (bit place above : ℕ) → bit < 7
     → bitsText (7 - bit) bit place above ≡ cond (eqb (above % 2) 1) (flagText place bit) [] ++ bitsText (7 - (bit + 1)) (bit + 1) place (above / 2)

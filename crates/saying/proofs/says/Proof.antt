@@ -1,9 +1,9 @@
 use denote.Ref.{now}
 use Rattle.sentences.proofs.Putting.{put-as}
-use Rattle.telling.proofs.Choosing.{says-answered, says-other}
+use Rattle.saying.proofs.Choosing.{says-answered, says-other}
 use borrow.Author.Needs.{needs}
-use Rattle.telling.proofs.answer.says.Statement.{statement}
-use Rattle.telling.proofs.answer.says.Tie as tie
+use Rattle.saying.proofs.says.Statement.{statement}
+use Rattle.saying.proofs.says.Tie as tie
 
 returns : tie.Need-returns
 returns c =

@@ -1,6 +1,6 @@
 use borrow.Author.Needs.{needs}
-use Rattle.telling.proofs.answer.say_row.Statement.{statement}
-use Rattle.telling.proofs.answer.say_row.Tie as tie
+use Rattle.saying.proofs.say_row.Statement.{statement}
+use Rattle.saying.proofs.say_row.Tie as tie
 
 returns : tie.Need-returns
 returns c = rw (c .if1 .taken, c .before .long-row .ensures .0)

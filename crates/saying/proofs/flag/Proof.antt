@@ -1,8 +1,8 @@
-use Rattle.telling.proofs.Choosing.{flag-as}
+use Rattle.saying.proofs.Choosing.{flag-as}
 use Rattle.sentences.proofs.Putting.{put-as}
 use borrow.Author.Needs.{needs}
-use Rattle.telling.proofs.answer.flag.Statement.{statement}
-use Rattle.telling.proofs.answer.flag.Tie as tie
+use Rattle.saying.proofs.flag.Statement.{statement}
+use Rattle.saying.proofs.flag.Tie as tie
 
 returns : tie.Need-returns
 returns c =
