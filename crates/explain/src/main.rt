@@ -1,13 +1,12 @@
 // A recording told for a class: each frame with its command and fields in words, what the device replied and why, its answer and status.
 // explain [-html] [RECORDING]; without a name the recording is standard input.
-mod answer;
-mod out;
-mod story;
-
 use libc::STDERR_FILENO;
 use libc::STDIN_FILENO;
+use line::Call;
 use reader::FRAME_ROOM;
+use reasons::Reason;
 use sentences::front;
+use trail::Trail;
 use wire::ANSWER_ROOM;
 use wishes::Wish;
 
@@ -36,9 +35,9 @@ fn main() {
         );
         return;
     }
-    out::begin(wish.html);
+    output::begin(wish.html);
     tell(fd, wish.html);
-    out::end(wish.html);
+    output::end(wish.html);
 }
 
 fn arguments() -> Wish {
@@ -86,7 +85,7 @@ fn tell(fd: i32, html: bool) {
         let reason = seen.reason;
         let given = front(&buf, seen.count);
         let heard = part(&bytes, end);
-        trail = story::call(
+        trail = after_call(
             html,
             trail,
             &mut shadow,
@@ -100,6 +99,28 @@ fn tell(fd: i32, html: bool) {
         from = end;
         turns -= 1;
     }
+}
+
+// A call took these bytes from a place on; the last of them brought it. It is told, and the trail goes on behind it.
+fn after_call(
+    html: bool,
+    trail: Trail,
+    shadow: &mut [u8; FRAME_ROOM],
+    bytes: &[u8],
+    from: usize,
+    call: Call,
+    number: u64,
+    reason: Reason,
+    given: &[u8],
+) -> Trail {
+    if bytes.len() <= from {
+        return trail;
+    }
+    let end = bytes.len() - 1;
+    let byte = bytes[end];
+    let before = trail::follow(trail, shadow, &bytes[from..end]);
+    story::told(html, before, &*shadow, byte, call, number, reason, given);
+    trail::pass(before, shadow, byte)
 }
 
 // The bytes that are not yet heard; where there are none, as much of the recording as is there: nothing at its end, or where it can't be read.

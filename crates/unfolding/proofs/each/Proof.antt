@@ -1,8 +1,8 @@
 use Prim.Native.Nat.{_≤_, _-_, _+_}
 use lib.ListN.{length}
 use borrow.Author.Needs.{needs}
-use Rattle.explain.proofs.answer.each.Statement.{statement}
-use Rattle.explain.proofs.answer.each.Tie as tie
+use Rattle.unfolding.proofs.each.Statement.{statement}
+use Rattle.unfolding.proofs.each.Tie as tie
 
 abbrev Inv-loop : tie.InvT-loop
 Inv-loop html code «data» at₀ i₀ at i = (at ≤ length «data» + 1) × (i ≤ at)

@@ -1,4 +1,5 @@
-// What is written: lines of a text, or the same as rows of a page.
+// What is written on standard output: lines of a text, or the same as rows of a page.
+// Part of `explain`, in a room of its own because of its check's time; what it writes no contract can say.
 use items::Four;
 use items::Item;
 use items::Kind;

@@ -1,5 +1,5 @@
 // An answer field by field, and the status bits that are set.
-use crate::out;
+// Part of `explain`, in a room of its own because of its check's time; what it writes no contract can say.
 use items::Label;
 use sentences::front;
 use words::fields;
@@ -9,7 +9,7 @@ ghost use lib.ListN.{length};
 
 // The bytes of an answer.
 pub fn bytes(html: bool, given: &[u8]) {
-    out::bytes(html, Label::Answer, b"", given, b"");
+    output::bytes(html, Label::Answer, b"", given, b"");
 }
 
 // The same, its data field by field, and its status: 01h, LEN, SEQ, CMD, data, 04h, six status bytes, 05h, BCC and 03h.
@@ -34,7 +34,7 @@ fn content(html: bool, code: u8, data: &[u8]) {
         return;
     }
     if code == 53 {
-        out::field(html, fields::paid_word(data[0]), &data[1..]);
+        output::field(html, fields::paid_word(data[0]), &data[1..]);
         return;
     }
     each(html, code, data);
@@ -46,7 +46,7 @@ fn each(html: bool, code: u8, data: &[u8]) {
     let mut i = 0;
     while at < data.len() {
         let end = field_end(data, at);
-        out::field(html, fields::field_word(code, i), &data[at..end]);
+        output::field(html, fields::field_word(code, i), &data[at..end]);
         at = end + 1;
         i += 1;
     }
@@ -62,7 +62,7 @@ fn field_end(part: &[u8], at: usize) -> usize
 
 // The six bytes, then a line for each bit that says something.
 fn status(html: bool, six: &[u8]) {
-    out::bytes(html, Label::Status, b"", six, b"");
+    output::bytes(html, Label::Status, b"", six, b"");
     let mut i = 0;
     while i < six.len() {
         bits(html, i, six[i]);
@@ -90,7 +90,7 @@ fn bit(html: bool, i: usize, k: usize) {
     if is(front(&word, name.count), b"always") {
         return;
     }
-    out::said(
+    output::said(
         html,
         Label::Status,
         b" bit #.#: ~",

@@ -6,8 +6,8 @@ use lib.ListN.{length, take, drop, length-drop}
 use Rattle.text.specs.Parts.{firstAt}
 use Rattle.text.proofs.Cutting.{place-within, to-end}
 use borrow.Author.Needs.{needs}
-use Rattle.explain.proofs.answer.field_end.Statement.{statement}
-use Rattle.explain.proofs.answer.field_end.Tie as tie
+use Rattle.unfolding.proofs.field_end.Statement.{statement}
+use Rattle.unfolding.proofs.field_end.Tie as tie
 
 within : (t : List ℕ) (at f : ℕ) → at ≤ length t → f ≡ firstAt 0x2C (take (length t - at) (drop at t)) → at + f ≤ length t
 within t at f h e =

@@ -1,6 +1,5 @@
 // What is told of a call of the device, and at the end of the recording.
-use crate::answer;
-use crate::out;
+// Part of `explain`, in a room of its own because of its check's time; what it writes no contract can say.
 use items::Item;
 use items::Kind;
 use items::Label;
@@ -11,29 +10,8 @@ use reasons::Reason;
 use sentences::front;
 use trail::Trail;
 
-// A call took these bytes from a place on; the last of them brought it. What it gave back is `given`.
-pub fn call(
-    html: bool,
-    trail: Trail,
-    shadow: &mut [u8; FRAME_ROOM],
-    bytes: &[u8],
-    from: usize,
-    call: Call,
-    number: u64,
-    reason: Reason,
-    given: &[u8],
-) -> Trail {
-    if bytes.len() <= from {
-        return trail;
-    }
-    let end = bytes.len() - 1;
-    let byte = bytes[end];
-    let before = trail::follow(trail, shadow, &bytes[from..end]);
-    told(html, before, &*shadow, byte, call, number, reason, given);
-    trail::pass(before, shadow, byte)
-}
-
-fn told(
+// A call that a byte brought, behind the frame's bytes in `shadow`. What it gave back is `given`.
+pub fn told(
     html: bool,
     trail: Trail,
     shadow: &[u8],
@@ -57,8 +35,8 @@ fn told(
             asked(html, shadow, count);
             reply(html, number);
             refusal(html, number, reason);
-            answer::tell(html, code_in(shadow), given);
-            out::frame_end(html);
+            unfolding::tell(html, code_in(shadow), given);
+            output::frame_end(html);
         }
     }
 }
@@ -71,11 +49,11 @@ pub fn ends(html: bool, trail: Trail, shadow: &[u8; FRAME_ROOM]) {
         return;
     }
     skipped(html, trail.start, trail.skipped);
-    out::heading(html, Kind::Cut, trail.start, b"");
+    output::heading(html, Kind::Cut, trail.start, b"");
     frame(html, shadow, reader.count, b"");
     let expected = expecting::expected_at(reader, shadow);
-    out::four(html, items::cut_items(reader.count, expected));
-    out::frame_end(html);
+    output::four(html, items::cut_items(reader.count, expected));
+    output::frame_end(html);
 }
 
 // The bytes outside frames that end where the next frame begins, if there are any.
@@ -83,22 +61,22 @@ fn skipped(html: bool, end: u64, count: u64) {
     if count == 0 {
         return;
     }
-    out::heading(html, Kind::Skipped, basics::less(end, count), b"");
+    output::heading(html, Kind::Skipped, basics::less(end, count), b"");
     let value = Value::Number(count);
-    out::item(
+    output::item(
         html,
         Item {
             label: Label::Skipped,
             value,
         },
     );
-    out::frame_end(html);
+    output::frame_end(html);
 }
 
 // 01h, the bytes behind it, and the last one.
 fn frame(html: bool, shadow: &[u8], count: u8, last: &[u8]) {
     let start = [0x01];
-    out::bytes(
+    output::bytes(
         html,
         Label::Frame,
         &start,
@@ -110,12 +88,12 @@ fn frame(html: bool, shadow: &[u8], count: u8, last: &[u8]) {
 fn broken(html: bool, kind: Kind, trail: Trail, shadow: &[u8], byte: u8, number: u64) {
     let reader = trail.reader;
     skipped(html, trail.start, trail.skipped);
-    out::heading(html, kind, trail.start, b"");
+    output::heading(html, kind, trail.start, b"");
     frame(html, shadow, reader.count, b"");
     let expected = expecting::expected_at(reader, shadow);
-    out::four(html, items::broken_items(reader.count, byte, expected));
+    output::four(html, items::broken_items(reader.count, byte, expected));
     reply(html, number);
-    out::frame_end(html);
+    output::frame_end(html);
 }
 
 fn repeated(
@@ -129,8 +107,8 @@ fn repeated(
 ) {
     whole(html, kind, trail, shadow, byte);
     reply(html, number);
-    answer::bytes(html, given);
-    out::frame_end(html);
+    unfolding::bytes(html, given);
+    output::frame_end(html);
 }
 
 // A whole frame: what it is, its bytes, SEQ and CMD.
@@ -140,11 +118,11 @@ fn whole(html: bool, kind: Kind, trail: Trail, shadow: &[u8], byte: u8) {
     let code = code_in(shadow);
     let name = words::command_word(code);
     let word = name.bytes;
-    out::heading(html, kind, trail.start, front(&word, name.count));
+    output::heading(html, kind, trail.start, front(&word, name.count));
     let last = [byte];
     frame(html, shadow, reader.count, &last);
     let seq = Value::Byte(at(shadow, 1));
-    out::item(
+    output::item(
         html,
         Item {
             label: Label::Seq,
@@ -152,7 +130,7 @@ fn whole(html: bool, kind: Kind, trail: Trail, shadow: &[u8], byte: u8) {
         },
     );
     let cmd = Value::Number(code as u64);
-    out::item(
+    output::item(
         html,
         Item {
             label: Label::Cmd,
@@ -179,14 +157,14 @@ fn asked(html: bool, shadow: &[u8], count: usize) {
     }
     let code = shadow[2];
     let data = front(&shadow[3..], count);
-    out::text(html, Label::Data, data);
-    out::text(html, Label::Text, command::first_text(code, data));
-    out::text(html, Label::SecondText, command::second_text(code, data));
-    out::four(html, items::asked::asked_of(command::parse(code, data)));
+    output::text(html, Label::Data, data);
+    output::text(html, Label::Text, command::first_text(code, data));
+    output::text(html, Label::SecondText, command::second_text(code, data));
+    output::four(html, items::asked::asked_of(command::parse(code, data)));
 }
 
 fn reply(html: bool, number: u64) {
-    out::said(
+    output::said(
         html,
         Label::Reply,
         b" #, ~",
@@ -201,5 +179,5 @@ fn refusal(html: bool, number: u64, reason: Reason) {
     if number == 0 {
         return;
     }
-    out::said(html, Label::Reason, b" ~", words::reason_word(reason), 0, 0);
+    output::said(html, Label::Reason, b" ~", words::reason_word(reason), 0, 0);
 }

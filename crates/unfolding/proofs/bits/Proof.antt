@@ -1,7 +1,7 @@
 use Prim.Native.Nat.{_≤_, _-_}
 use borrow.Author.Needs.{needs}
-use Rattle.explain.proofs.answer.bits.Statement.{statement}
-use Rattle.explain.proofs.answer.bits.Tie as tie
+use Rattle.unfolding.proofs.bits.Statement.{statement}
+use Rattle.unfolding.proofs.bits.Tie as tie
 
 abbrev Inv-loop : tie.InvT-loop
 Inv-loop html i byte left₀ k₀ left k = k ≤ 7

@@ -1,8 +1,8 @@
 use Prim.Native.Nat.{_≤_, _-_}
 use lib.ListN.{length}
 use borrow.Author.Needs.{needs}
-use Rattle.explain.proofs.answer.status.Statement.{statement}
-use Rattle.explain.proofs.answer.status.Tie as tie
+use Rattle.unfolding.proofs.status.Statement.{statement}
+use Rattle.unfolding.proofs.status.Tie as tie
 
 abbrev Inv-loop : tie.InvT-loop
 Inv-loop html six i₀ i = i ≤ length six
