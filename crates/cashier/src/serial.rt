@@ -149,7 +149,7 @@ fn sends(word: Word) -> bool {
 // A frame that can't be written is one that nobody hears.
 fn write(fd: i32, out: &[u8; FRAME_ROOM], count: usize) {
     if !io::write_all(fd, front(out, count)) {
-        os::fail(b"the line can't be written");
+        os::fail(b"error: the line can't be written");
     }
 }
 

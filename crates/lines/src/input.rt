@@ -4,6 +4,7 @@ use crate::gather;
 use libc::STDIN_FILENO;
 use script::Act;
 use sentences::front;
+ghost use Rattle.lines.specs.Lines.{LineRead, ActRead};
 
 // SCRIPTS 6: the number of a line that is too long.
 const TOO_LONG: u8 = 3;
@@ -22,7 +23,9 @@ pub struct Next {
 }
 
 // The next line goes to the front of `line`, the data of its command to that of `content`.
-pub fn next_act(line: &mut [u8], content: &mut [u8]) -> Next {
+pub fn next_act(line: &mut [u8], content: &mut [u8]) -> Next
+    ensures { λ r. ⌜ ActRead (now (line .entry)) (now (line .exit)) (now (content .entry)) (now (content .exit)) r ⌝ }
+{
     let typed = next_line(line);
     let mut act = Act::Wrong(TOO_LONG);
     if typed.count <= LINE_ROOM {
@@ -36,7 +39,9 @@ pub fn next_act(line: &mut [u8], content: &mut [u8]) -> Next {
 }
 
 // Of a line that is too long no more than one byte too many is read.
-fn next_line(line: &mut [u8]) -> Typed {
+fn next_line(line: &mut [u8]) -> Typed
+    ensures { λ r. ⌜ LineRead (now (line .entry)) (now (line .exit)) r ⌝ }
+{
     let mut count: usize = 0;
     let mut left = LINE_ROOM + 1;
     while 0 < left {
