@@ -35,7 +35,11 @@ pub fn answer(attempt: u8, count: usize, fault: Fault) {
     }
 }
 
-pub fn silence() {
+// Where nothing arrived.
+pub fn silence(got: usize) {
+    if 0 < got {
+        return;
+    }
     let mut text = [0u8; TEXT_ROOM];
     let n = telling::silence(&mut text, 0);
     say(&text, n);
@@ -51,6 +55,13 @@ pub fn says(word: Word, got: &[u8]) {
     let mut text = [0u8; TEXT_ROOM];
     let n = saying::says(&mut text, 0, false, word, got);
     say(&text, n);
+}
+
+// A command that the till end does not send.
+pub fn refused(word: Word, got: &[u8]) {
+    if !exchange::is_waiting(word) {
+        says(word, got);
+    }
 }
 
 // What is wrong with a line of the script.
