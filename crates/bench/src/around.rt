@@ -25,15 +25,13 @@ pub fn next(
     let answers = phase != SENDS;
     let fault = faults::fault_of(desk.faults, answers, desk.attempt);
     if answers {
-        tell::answer(desk.attempt, desk.given, fault);
         let told = desk::brought_back(desk, &*sent, answer, back, out);
         let word = told.word;
-        tell::says(word, &*out);
+        tell::came(desk.attempt, desk.given, fault, word, &*out);
         return told.desk;
     }
-    tell::way(false, desk.attempt, desk.count, fault);
     let after = desk::on_its_way(desk, &*out, arrived);
-    tell::silence(after.got);
+    tell::sent(desk.attempt, desk.count, fault, after.got);
     after
 }
 
@@ -55,10 +53,9 @@ fn play(desk: Desk, sent: &mut [u8; FRAME_ROOM], out: &mut [u8]) -> Desk {
     match act {
         Act::Wrong(why) => tell::wrong(after.lines, why),
         Act::Command { code, count } => {
-            tell::heading(code, front(&line, next.count));
             let told = desk::sent_to(after, sent, code, front(&content, count), out);
             let word = told.word;
-            tell::refused(word, &*out);
+            tell::command(code, front(&line, next.count), word, &*out);
             return told.desk;
         }
         _ => {}
