@@ -1,6 +1,6 @@
 // Both ends on one table: a script on standard input (docs/SCRIPTS.md), a till end, a fresh device, and a line between them that does to
 // tries and answers what the script says. It tells what each of them does.
-mod desk;
+mod around;
 mod tell;
 
 use desk::BACK_ROOM;
@@ -28,7 +28,7 @@ fn main() {
         }
         if desk.place < desk.got {
             let mut given = [0u8; ANSWER_ROOM];
-            let bytes = desk::heard_of(&arrived, desk.got);
+            let bytes = around::bytes_at(&arrived, desk.got);
             let seen = witness::see(kept, &mut frame, &mut last, &mut given, bytes, desk.place);
             let after = seen.kept;
             let call = seen.call;
@@ -38,6 +38,6 @@ fn main() {
             desk = desk::heard(desk, call, seen.taken, &given, seen.count, &mut back);
             continue;
         }
-        desk = desk::next(desk, &mut sent, &mut answer, &mut out, &mut arrived, &back);
+        desk = around::next(desk, &mut sent, &mut answer, &mut out, &mut arrived, &back);
     }
 }

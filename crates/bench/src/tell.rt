@@ -16,40 +16,46 @@ fn say(text: &[u8], n: usize) {
     io::write_all(STDOUT_FILENO, front(text, n));
 }
 
-pub fn heading(code: u8, line: &[u8]) {
+// A command, and where it is not sent, what the till end says of it.
+pub fn command(code: u8, line: &[u8], word: Word, got: &[u8]) {
     let mut text = [0u8; TEXT_ROOM];
-    let n = telling::heading(&mut text, 0, false, code, line);
-    say(&text, n);
-}
-
-pub fn way(answer: bool, attempt: u8, count: usize, fault: Fault) {
-    let mut text = [0u8; TEXT_ROOM];
-    let n = telling::way(&mut text, 0, answer, attempt, count, fault);
-    say(&text, n);
-}
-
-// An answer on its way back, where there is one.
-pub fn answer(attempt: u8, count: usize, fault: Fault) {
-    if 0 < count {
-        way(true, attempt, count, fault);
+    let next = telling::heading(&mut text, 0, false, code, line);
+    if exchange::is_waiting(word) {
+        say(&text, next);
+        return;
     }
+    let n = saying::says(&mut text, next, false, word, got);
+    say(&text, n);
 }
 
-pub fn silence() {
+// A try on its way, and the device's silence where nothing arrives.
+pub fn sent(attempt: u8, count: usize, fault: Fault, got: usize) {
     let mut text = [0u8; TEXT_ROOM];
-    let n = telling::silence(&mut text, 0);
+    let next = telling::way(&mut text, 0, false, attempt, count, fault);
+    if 0 < got {
+        say(&text, next);
+        return;
+    }
+    let n = telling::silence(&mut text, next);
+    say(&text, n);
+}
+
+// An answer on its way back, where there is one, and what the till end says.
+pub fn came(attempt: u8, count: usize, fault: Fault, word: Word, got: &[u8]) {
+    let mut text = [0u8; TEXT_ROOM];
+    if count == 0 {
+        let n = saying::says(&mut text, 0, false, word, got);
+        say(&text, n);
+        return;
+    }
+    let next = telling::way(&mut text, 0, true, attempt, count, fault);
+    let n = saying::says(&mut text, next, false, word, got);
     say(&text, n);
 }
 
 pub fn call(call: Call, number: u64, taken: usize, reason: Reason) {
     let mut text = [0u8; TEXT_ROOM];
     let n = telling::call(&mut text, 0, call, number, taken, reason);
-    say(&text, n);
-}
-
-pub fn says(word: Word, got: &[u8]) {
-    let mut text = [0u8; TEXT_ROOM];
-    let n = saying::says(&mut text, 0, false, word, got);
     say(&text, n);
 }
 
