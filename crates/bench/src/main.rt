@@ -5,11 +5,23 @@ mod tell;
 
 use desk::BACK_ROOM;
 use desk::ENDED;
+use libc::STDERR_FILENO;
 use reader::FRAME_ROOM;
 use wire::ANSWER_ROOM;
 
-// The device is held here alone. A turn is one call of it, where bytes that arrived are left to hear, or else one step of what stands around it.
 fn main() {
+    if 1 < os::arg_count() {
+        io::write_all(
+            STDERR_FILENO,
+            b"error: usage: bench <SCRIPT: the script comes on standard input, and there are no arguments\n",
+        );
+        return;
+    }
+    play();
+}
+
+// The device is held here alone. A turn is one call of it, where bytes that arrived are left to hear, or else one step of what stands around it.
+fn play() {
     let mut kept = kept::fresh_kept();
     let mut frame = [0u8; FRAME_ROOM];
     let mut last = [0u8; ANSWER_ROOM];

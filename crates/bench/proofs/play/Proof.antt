@@ -2,8 +2,8 @@
 use borrow.Author.Needs.{needs}
 use native.Mathlib.Omega.{arith}
 use Prim.Native.Nat.{_-_}
-use Rattle.bench.proofs.main.Statement.{statement}
-use Rattle.bench.proofs.main.Tie as tie
+use Rattle.bench.proofs.play.Statement.{statement}
+use Rattle.bench.proofs.play.Tie as tie
 
 abbrev Inv-loop : tie.InvT-loop
 Inv-loop kept₀ frame₀ last₀ arrived₀ back₀ sent₀ answer₀ out₀ desk₀ turns₀ kept frame last arrived back sent answer out desk turns =
@@ -14,13 +14,15 @@ abbrev μ-loop : tie.MeasureT-loop
     0xFFFFFFFFFFFFFFFF - turns
 
 loop-less : tie.Need-loop-less Inv-loop μ-loop
-loop-less c = omega (arith, c .before .before .before .before .before .before .before .before .before .before .before .before .before .before .before .before .loop-test .taken)
+loop-less c =
+    let seen = c .before .before .before .before .before .before .before .before in
+    omega (arith, seen .before .before .before .before .before .before .before .before .loop-test .taken)
 
 loop-less-2 : tie.Need-loop-less-2 Inv-loop μ-loop
 loop-less-2 c = omega arith
 
-pub main-spec : {M : Type 1} → statement M
-main-spec =
+pub play-spec : {M : Type 1} → statement M
+play-spec =
     tie.close
     (tie.spec
     Inv-loop
