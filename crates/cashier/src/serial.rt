@@ -143,7 +143,7 @@ fn write(fd: i32, out: &[u8; FRAME_ROOM], count: usize) {
     }
 }
 
-// What comes is heard until the till end speaks. Where a read brings nothing, and behind the last one, no more comes in time (PROTOCOL 7.5).
+// What comes is heard until the till end speaks. Behind the last read no more comes in time (PROTOCOL 7.5).
 fn wait(
     till: Till,
     fd: i32,
@@ -155,13 +155,7 @@ fn wait(
     let mut reads = MOST_READS;
     while 0 < reads {
         reads -= 1;
-        let mut came = [0u8; FRAME_ROOM];
-        let got = libc::read(fd, &mut came);
-        let n = io::count(got, &came);
-        if n == 0 {
-            return till::timeout(listening, sent, out);
-        }
-        let said = exchange::hear_some(listening, sent, answer, front(&came, n), out);
+        let said = hear(listening, fd, sent, answer, out);
         let word = said.word;
         if !exchange::is_waiting(word) {
             return said;
@@ -170,4 +164,21 @@ fn wait(
         listening = next;
     }
     till::timeout(listening, sent, out)
+}
+
+// One read: where it brings nothing, nothing comes in time.
+fn hear(
+    till: Till,
+    fd: i32,
+    sent: &[u8; FRAME_ROOM],
+    answer: &mut [u8; FRAME_ROOM],
+    out: &mut [u8],
+) -> Said {
+    let mut came = [0u8; FRAME_ROOM];
+    let got = libc::read(fd, &mut came);
+    let n = io::count(got, &came);
+    if n == 0 {
+        return till::timeout(till, sent, out);
+    }
+    exchange::hear_some(till, sent, answer, front(&came, n), out)
 }
