@@ -6,6 +6,7 @@ use script::Act;
 use script::MOST_CONTENT;
 use sentences::front;
 use till::MOST_TRIES;
+use till::Said;
 use till::Till;
 use till::Word;
 
@@ -17,10 +18,9 @@ const NO_FAULTS: u8 = 6;
 
 const UNFINISHED: u8 = 7;
 
-// The till end and what it said last, the lines of the script so far, and whether it goes on. The arrays are lent.
+// The till end, the lines of the script so far, and whether it goes on. The arrays are lent.
 pub struct Desk {
     pub till: Till,
-    pub word: Word,
     pub lines: u64,
     pub on: bool,
 }
@@ -29,7 +29,6 @@ pub fn fresh() -> Desk {
     let till = till::fresh();
     Desk {
         till,
-        word: Word::Idle,
         lines: 0,
         on: true,
     }
@@ -64,9 +63,8 @@ pub fn play(
         } => stopped(after, NO_FAULTS),
         Act::Command { code, count } => {
             tell::heading(code, front(&line, next.count));
-            let begun = command(after, sent, code, front(&content, count), out);
-            let done = tries(begun, fd, &*sent, answer, out);
-            ended(done, keep, &*out)
+            let begun = till::command(desk.till, sent, code, front(&content, count), out);
+            ended(after.lines, begun, fd, keep, &*sent, answer, out)
         }
     }
 }
@@ -80,61 +78,53 @@ fn stopped(desk: Desk, why: u8) -> Desk {
 }
 
 // A command behind its last try: it is told, and UNFINISHED stops all but what was told -k.
-fn ended(desk: Desk, keep: bool, out: &[u8; FRAME_ROOM]) -> Desk {
-    let word = desk.word;
-    tell::says(word, out);
-    if let Word::Unfinished(_) = word {
-        if !keep {
-            return stopped(desk, UNFINISHED);
-        }
-    }
-    desk
-}
-
-// The desk behind an event at the till end.
-fn behind(desk: Desk, till: Till, word: Word) -> Desk {
-    Desk {
-        till,
-        word,
-        lines: desk.lines,
-        on: desk.on,
-    }
-}
-
-// The till end is told of a command.
-fn command(
-    desk: Desk,
-    sent: &mut [u8; FRAME_ROOM],
-    code: u8,
-    content: &[u8],
-    out: &mut [u8],
-) -> Desk {
-    let said = till::command(desk.till, sent, code, content, out);
-    let till = said.till;
-    let word = said.word;
-    behind(desk, till, word)
-}
-
-// Try after try, as long as the till end has a frame to send.
-fn tries(
-    begun: Desk,
+fn ended(
+    lines: u64,
+    begun: Said,
     fd: i32,
+    keep: bool,
     sent: &[u8; FRAME_ROOM],
     answer: &mut [u8; FRAME_ROOM],
     out: &mut [u8; FRAME_ROOM],
 ) -> Desk {
-    let mut desk = begun;
+    let done = tries(begun, fd, sent, answer, out);
+    let till = done.till;
+    let word = done.word;
+    tell::says(word, &*out);
+    let after = Desk {
+        till,
+        lines,
+        on: true,
+    };
+    if let Word::Unfinished(_) = word {
+        if !keep {
+            return stopped(after, UNFINISHED);
+        }
+    }
+    after
+}
+
+// Try after try, as long as the till end has a frame to send.
+fn tries(
+    begun: Said,
+    fd: i32,
+    sent: &[u8; FRAME_ROOM],
+    answer: &mut [u8; FRAME_ROOM],
+    out: &mut [u8; FRAME_ROOM],
+) -> Said {
+    let mut said = begun;
     let mut n: u8 = 0;
     while n < MOST_TRIES {
-        let word = desk.word;
+        let word = said.word;
         if !sends(word) {
-            return desk;
+            return said;
         }
         write(fd, &*out, till::count(word));
-        desk = wait(desk, fd, sent, answer, out);
+        let waiting = said.till;
+        said = wait(waiting, fd, sent, answer, out);
         n += 1;
     }
-    desk
+    said
 }
 
 // Whether a frame stands in the buffer.
@@ -153,47 +143,42 @@ fn write(fd: i32, out: &[u8; FRAME_ROOM], count: usize) {
     }
 }
 
-// What comes is heard until the till end speaks.
+// What comes is heard until the till end speaks. Behind the last read no more comes in time (PROTOCOL 7.5).
 fn wait(
-    begun: Desk,
+    till: Till,
     fd: i32,
     sent: &[u8; FRAME_ROOM],
     answer: &mut [u8; FRAME_ROOM],
     out: &mut [u8; FRAME_ROOM],
-) -> Desk {
-    let mut desk = begun;
+) -> Said {
+    let mut listening = till;
     let mut reads = MOST_READS;
     while 0 < reads {
         reads -= 1;
-        desk = hear(desk, fd, reads == 0, sent, answer, out);
-        let word = desk.word;
+        let said = hear(listening, fd, sent, answer, out);
+        let word = said.word;
         if !exchange::is_waiting(word) {
-            return desk;
+            return said;
         }
+        let next = said.till;
+        listening = next;
     }
-    desk
+    till::timeout(listening, sent, out)
 }
 
-// One read: where it brings nothing, and where no other is made, what came is all that comes in time (PROTOCOL 7.5).
+// One read: where it brings nothing, nothing comes in time.
 fn hear(
-    desk: Desk,
+    till: Till,
     fd: i32,
-    last: bool,
     sent: &[u8; FRAME_ROOM],
     answer: &mut [u8; FRAME_ROOM],
     out: &mut [u8],
-) -> Desk {
+) -> Said {
     let mut came = [0u8; FRAME_ROOM];
     let got = libc::read(fd, &mut came);
     let n = io::count(got, &came);
-    if last | (n == 0) {
-        let said = exchange::hear_back(desk.till, sent, answer, front(&came, n), out);
-        let till = said.till;
-        let word = said.word;
-        return behind(desk, till, word);
+    if n == 0 {
+        return till::timeout(till, sent, out);
     }
-    let said = exchange::hear_some(desk.till, sent, answer, front(&came, n), out);
-    let till = said.till;
-    let word = said.word;
-    behind(desk, till, word)
+    exchange::hear_some(till, sent, answer, front(&came, n), out)
 }

@@ -5,10 +5,10 @@ use Rattle.cashier.proofs.serial.tries.Statement.{statement}
 use Rattle.cashier.proofs.serial.tries.Tie as tie
 
 abbrev Inv-loop : tie.InvT-loop
-Inv-loop fd sent answer₀ out₀ desk₀ n₀ answer out desk n = Unit {0}
+Inv-loop fd sent answer₀ out₀ said₀ n₀ answer out said n = Unit {0}
 
 abbrev μ-loop : tie.MeasureT-loop
-μ-loop fd sent answer₀ out₀ desk₀ n₀ answer out desk n = 5 - n
+μ-loop fd sent answer₀ out₀ said₀ n₀ answer out said n = 5 - n
 
 pub tries-spec : {M : Type 1} → statement M
 tries-spec =

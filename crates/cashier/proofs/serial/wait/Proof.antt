@@ -4,10 +4,10 @@ use Rattle.cashier.proofs.serial.wait.Statement.{statement}
 use Rattle.cashier.proofs.serial.wait.Tie as tie
 
 abbrev Inv-loop : tie.InvT-loop
-Inv-loop fd sent answer₀ out₀ desk₀ reads₀ answer out desk reads = Unit {0}
+Inv-loop fd sent answer₀ out₀ listening₀ reads₀ answer out listening reads = Unit {0}
 
 abbrev μ-loop : tie.MeasureT-loop
-μ-loop fd sent answer₀ out₀ desk₀ reads₀ answer out desk reads = reads
+μ-loop fd sent answer₀ out₀ listening₀ reads₀ answer out listening reads = reads
 
 pub wait-spec : {M : Type 1} → statement M
 wait-spec =
@@ -22,4 +22,5 @@ wait-spec =
     (λ c. search needs)
     (λ c. search needs)
     (λ c. search needs)
+    (λ c κs. search needs)
     (λ c. search needs))
