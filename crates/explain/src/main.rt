@@ -64,69 +64,66 @@ fn tell(fd: i32, html: bool) {
     let mut shadow = [0u8; FRAME_ROOM];
     let mut kept = kept::fresh_kept();
     let mut trail = trail::fresh();
-    let mut count = 0;
-    let mut from = 0;
+    let mut span = Span { from: 0, count: 0 };
     let mut turns = 9223372036854775807u64;
     while turns > 0 {
-        let span = refill(fd, &mut bytes, from, count);
-        count = span.count;
-        if count == 0 {
+        span = refill(fd, &mut bytes, span);
+        if span.count == 0 {
             story::ends(html, trail, &shadow);
             return;
         }
-        from = span.from;
         let mut buf = [0u8; ANSWER_ROOM];
-        let read = part(&bytes, count);
-        let seen = witness::see(kept, &mut frame, &mut last, &mut buf, read, from);
-        let after = seen.kept;
-        kept = after;
-        let end = reach(from, seen.taken, count);
+        let read = part(&bytes, span.count);
+        let seen = witness::see(kept, &mut frame, &mut last, &mut buf, read, span.from);
+        kept = seen.kept;
         let call = seen.call;
         let reason = seen.reason;
+        let taken = taken_of(&bytes, span, seen.taken);
         let given = front(&buf, seen.count);
-        let heard = part(&bytes, end);
         trail = after_call(
             html,
             trail,
             &mut shadow,
-            heard,
-            from,
+            taken,
             call,
             seen.number,
             reason,
             given,
         );
-        from = end;
+        span = behind(span, seen.taken);
         turns -= 1;
     }
 }
 
-// A call took these bytes from a place on; the last of them brought it. It is told, and the trail goes on behind it.
+// A call took these bytes; the last of them brought it. It is told, and the trail goes on behind it.
 fn after_call(
     html: bool,
     trail: Trail,
     shadow: &mut [u8; FRAME_ROOM],
-    bytes: &[u8],
-    from: usize,
+    taken: &[u8],
     call: Call,
     number: u64,
     reason: Reason,
     given: &[u8],
 ) -> Trail {
-    if bytes.len() <= from {
+    let n = taken.len();
+    if n == 0 {
         return trail;
     }
-    let end = bytes.len() - 1;
-    let byte = bytes[end];
-    let before = trail::follow(trail, shadow, &bytes[from..end]);
+    let byte = taken[n - 1];
+    let before = follow(trail, shadow, front(taken, n - 1));
     story::told(html, before, &*shadow, byte, call, number, reason, given);
-    trail::pass(before, shadow, byte)
+    follow(before, shadow, &taken[n - 1..])
+}
+
+fn follow(trail: Trail, shadow: &mut [u8; FRAME_ROOM], bytes: &[u8]) -> Trail {
+    trail::follow(trail, shadow, bytes)
 }
 
 // The bytes that are not yet heard; where there are none, as much of the recording as is there: nothing at its end, or where it can't be read.
-fn refill(fd: i32, bytes: &mut [u8; PART_ROOM], from: usize, count: usize) -> Span {
-    if from < count {
-        return Span { from, count };
+fn refill(fd: i32, bytes: &mut [u8; PART_ROOM], span: Span) -> Span {
+    if span.from < span.count {
+        return span;
     }
     let got = libc::read(fd, bytes);
     if got < 0 {
@@ -142,13 +139,26 @@ fn part(bytes: &[u8; PART_ROOM], n: usize) -> &[u8] {
     front(bytes, n)
 }
 
-// The place behind the bytes that were taken; no further than the end.
-fn reach(from: usize, taken: usize, end: usize) -> usize {
-    if end <= from {
-        return end;
+// The first of the bytes that are not yet heard, as many as were taken.
+fn taken_of(bytes: &[u8; PART_ROOM], span: Span, taken: usize) -> &[u8] {
+    let read = part(bytes, span.count);
+    let from = basics::least_size(span.from, read.len());
+    front(&read[from..], taken)
+}
+
+// Those behind them: none where all were taken.
+fn behind(span: Span, taken: usize) -> Span {
+    if span.count <= span.from {
+        return span;
     }
-    if end - from < taken {
-        return end;
+    if span.count - span.from <= taken {
+        return Span {
+            from: span.count,
+            count: span.count,
+        };
     }
-    from + taken
+    Span {
+        from: span.from + taken,
+        count: span.count,
+    }
 }
