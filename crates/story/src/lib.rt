@@ -10,11 +10,39 @@ use reasons::Reason;
 use sentences::front;
 use trail::Trail;
 
-// A call that a byte brought, behind the frame's bytes in `shadow`. What it gave back is `given`.
-pub fn told(
+// A call took these bytes behind those of the trail; the last of them brought it. What it gave back is `given`.
+pub fn call(
     html: bool,
     trail: Trail,
-    shadow: &[u8],
+    shadow: &[u8; FRAME_ROOM],
+    taken: &[u8],
+    call: Call,
+    number: u64,
+    reason: Reason,
+    given: &[u8],
+) {
+    let n = taken.len();
+    if n == 0 {
+        return;
+    }
+    let mut near = *shadow;
+    let before = trail::follow(trail, &mut near, front(taken, n - 1));
+    told(
+        html,
+        before,
+        &near,
+        taken[n - 1],
+        call,
+        number,
+        reason,
+        given,
+    );
+}
+
+fn told(
+    html: bool,
+    trail: Trail,
+    shadow: &[u8; FRAME_ROOM],
     byte: u8,
     call: Call,
     number: u64,
