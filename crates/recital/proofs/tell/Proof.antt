@@ -1,20 +1,20 @@
 use Prim.Native.Nat.{_≤_}
 use native.Mathlib.Omega.{arith}
 use borrow.Author.Needs.{needs}
-use Rattle.explain.proofs.tell.Statement.{statement}
-use Rattle.explain.proofs.tell.Tie as tie
+use Rattle.recital.proofs.tell.Statement.{statement}
+use Rattle.recital.proofs.tell.Tie as tie
 
 abbrev Inv-loop : tie.InvT-loop
-Inv-loop fd html bytes₀ frame₀ last₀ shadow₀ kept₀ trail₀ count₀ from₀ turns₀ bytes frame last shadow kept trail count from turns = turns ≤ turns
+Inv-loop fd html bytes₀ frame₀ last₀ shadow₀ kept₀ trail₀ span₀ turns₀ bytes frame last shadow kept trail span turns = turns ≤ turns
 
 abbrev μ-loop : tie.MeasureT-loop
-μ-loop fd html bytes₀ frame₀ last₀ shadow₀ kept₀ trail₀ count₀ from₀ turns₀ bytes frame last shadow kept trail count from turns = turns
+μ-loop fd html bytes₀ frame₀ last₀ shadow₀ kept₀ trail₀ span₀ turns₀ bytes frame last shadow kept trail span turns = turns
 
 sub-turns : tie.Need-sub-turns Inv-loop μ-loop
-sub-turns c = omega (arith, c .before .before .before .before .before .before .before .before .before .before .before .before .before .before .before .before .before .before .loop-test .taken)
+sub-turns c = omega (arith, c .before .before .before .before .before .before .before .before .before .before .before .before .before .before .before .before .before .before .before .before .before .loop-test .taken)
 
 loop-less : tie.Need-loop-less Inv-loop μ-loop
-loop-less c = omega (arith, c .before .before .before .before .before .before .before .before .before .before .before .before .before .before .before .before .before .before .loop-test .taken)
+loop-less c = omega (arith, c .before .before .before .before .before .before .before .before .before .before .before .before .before .before .before .before .before .before .before .before .before .loop-test .taken)
 
 pub tell-spec : {M : Type 1} → statement M
 tell-spec =
@@ -34,6 +34,7 @@ tell-spec =
     (λ c κs. search needs)
     (λ c κs. search needs)
     (λ c. search needs)
+    (λ c κs. search needs)
     (λ c κs. search needs)
     (λ c κs. search needs)
     (λ c κs. search needs)
