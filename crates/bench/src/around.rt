@@ -10,7 +10,7 @@ use script::Act;
 use script::MOST_CONTENT;
 use sentences::front;
 
-pub fn next(
+pub(crate) fn next(
     desk: Desk,
     sent: &mut [u8; FRAME_ROOM],
     answer: &mut [u8; FRAME_ROOM],
@@ -36,7 +36,7 @@ pub fn next(
 }
 
 // The bytes that arrived at the device.
-pub fn bytes_at(arrived: &[u8; FRAME_ROOM], got: usize) -> &[u8] {
+pub(crate) fn bytes_at(arrived: &[u8; FRAME_ROOM], got: usize) -> &[u8] {
     front(arrived, got)
 }
 

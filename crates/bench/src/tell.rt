@@ -17,7 +17,7 @@ fn say(text: &[u8], n: usize) {
 }
 
 // A command, and where it is not sent, what the till end says of it.
-pub fn command(code: u8, line: &[u8], word: Word, got: &[u8]) {
+pub(crate) fn command(code: u8, line: &[u8], word: Word, got: &[u8]) {
     let mut text = [0u8; TEXT_ROOM];
     let next = telling::heading(&mut text, 0, false, code, line);
     if exchange::is_waiting(word) {
@@ -29,7 +29,7 @@ pub fn command(code: u8, line: &[u8], word: Word, got: &[u8]) {
 }
 
 // A try on its way, and the device's silence where nothing arrives.
-pub fn sent(attempt: u8, count: usize, fault: Fault, got: usize) {
+pub(crate) fn sent(attempt: u8, count: usize, fault: Fault, got: usize) {
     let mut text = [0u8; TEXT_ROOM];
     let next = telling::way(&mut text, 0, false, attempt, count, fault);
     if 0 < got {
@@ -41,7 +41,7 @@ pub fn sent(attempt: u8, count: usize, fault: Fault, got: usize) {
 }
 
 // An answer on its way back, where there is one, and what the till end says.
-pub fn came(attempt: u8, count: usize, fault: Fault, word: Word, got: &[u8]) {
+pub(crate) fn came(attempt: u8, count: usize, fault: Fault, word: Word, got: &[u8]) {
     let mut text = [0u8; TEXT_ROOM];
     if count == 0 {
         let n = saying::says(&mut text, 0, false, word, got);
@@ -53,21 +53,21 @@ pub fn came(attempt: u8, count: usize, fault: Fault, word: Word, got: &[u8]) {
     say(&text, n);
 }
 
-pub fn call(call: Call, number: u64, taken: usize, reason: Reason) {
+pub(crate) fn call(call: Call, number: u64, taken: usize, reason: Reason) {
     let mut text = [0u8; TEXT_ROOM];
     let n = telling::call(&mut text, 0, call, number, taken, reason);
     say(&text, n);
 }
 
 // What is wrong with a line of the script.
-pub fn wrong(line: u64, why: u8) {
+pub(crate) fn wrong(line: u64, why: u8) {
     let mut text = [0u8; TEXT_ROOM];
     let n = phrases::wrong(&mut text, 0, line, why);
     io::write_all(STDERR_FILENO, front(&text, n));
 }
 
 // The books, and how the commands ended, where all of the script was played.
-pub fn end(kept: Kept, tally: Tally, all: bool) {
+pub(crate) fn end(kept: Kept, tally: Tally, all: bool) {
     if !all {
         return;
     }

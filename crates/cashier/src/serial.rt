@@ -25,7 +25,7 @@ pub struct Desk {
     pub on: bool,
 }
 
-pub fn fresh() -> Desk {
+pub(crate) fn fresh() -> Desk {
     let till = till::fresh();
     Desk {
         till,
@@ -35,7 +35,7 @@ pub fn fresh() -> Desk {
 }
 
 // One line of the script.
-pub fn play(
+pub(crate) fn play(
     desk: Desk,
     fd: i32,
     keep: bool,
