@@ -63,7 +63,7 @@ module _ (t : ℕ → Bool) where
       rw (h .0) (every-append xs ys (h .1) q)
 
 plain : (b : ℕ) → 0x20 ≤ b → b ≤ 0xFF → mayStand Data b ≡ true
-plain b low high = rw (ne-eqb b 0x09 (λ e. omega arith), ne-eqb b 0x0A (λ e. omega arith), le-leb 0x20 b low, le-leb b 0xFF high)
+plain b low high = rw (ne-eqb b 0x09 (λ e. omega arith), ne-eqb b 0x0A (λ e. omega arith), ne-eqb b 0x10 (λ e. omega arith), le-leb 0x20 b low, le-leb b 0xFF high)
 
 digits-plain : (width n : ℕ) → every (mayStand Data) (digits width n) ≡ true
 unfolding digits

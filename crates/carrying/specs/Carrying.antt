@@ -1,8 +1,9 @@
 -- PROTOCOL 1.11: a whole frame carried out. Its command is judged and answered, one that is refused (1 to 4) too.
 use Prim.Native.Nat.{ℕ}
-use mathlib.Core.List.{List, []}
+use mathlib.Core.List.{List, [], _∷_, _++_}
 use Rattle.wire.specs.Frame.{Message, answerOf, frame}
 use Rattle.wire.specs.declared.Way.the-variants.{ToTill}
+use Rattle.display.specs.Display.{shownBy}
 use Rattle.kinds.specs.Fields.{parsedNumber}
 use Rattle.kinds.specs.declared.Parsed.{Parsed}
 use Rattle.kinds.specs.declared.Parsed.the-variants.{Read, Syntax, Unknown}
@@ -62,3 +63,8 @@ carryRead s seq code p =
 -- PROTOCOL 1.11: a command carried out on what a device remembers
 abbrev pub carry : Store → Message → Carried Store
 carry s m = carryRead s (m .seq) (m .code) (parsedOf (m .code) (m .content))
+
+-- PROTOCOL 5.17: the texts that commands carried out show, in their order
+abbrev pub textsOf : List Message → List (List ℕ)
+textsOf [] = []
+textsOf (m ∷ ms) = shownBy (m .code) (m .content) ++ textsOf ms

@@ -1,18 +1,19 @@
--- PROTOCOL 5.1: fourteen kinds of command, each with its own form.
+-- PROTOCOL 5.1: fifteen kinds of command, each with its own form.
 use Prim.Native.Nat.{ℕ}
-use mathlib.Core.Bool.{cond}
+use mathlib.Core.Bool.{cond, not, _&&_}
 use mathlib.Core.List.{List, []}
 use lib.Dec.{eqb}
+use Rattle.text.specs.Parts.{has}
 use Rattle.labels.specs.Texts.{onlyLine, firstLine, secondLine}
-use Rattle.kinds.specs.Plain.{bareOf, textOf, openOf, subtotalOf, sumsOf, closingOf}
+use Rattle.kinds.specs.Plain.{bareOf, textOf, openOf, subtotalOf, sumsOf, closingOf, showOf}
 use Rattle.money.specs.Money.{sellOf, payOf, drawerOf}
 use Rattle.kinds.specs.declared.Command.the-variants.{OpenText, CloseText, Close, Cancel, Status, Rates}
 use Rattle.kinds.specs.declared.Parsed.{Parsed}
-use Rattle.kinds.specs.declared.Parsed.the-variants.{Unknown}
+use Rattle.kinds.specs.declared.Parsed.the-variants.{Read, Syntax, Unknown}
 
 -- PROTOCOL 5.1, 2.2: the code, then the data; an unknown command is 2 whatever its data
-abbrev pub parsedOf : ℕ → List ℕ → Parsed
-parsedOf code s =
+abbrev pub formOf : ℕ → List ℕ → Parsed
+formOf code s =
     cond (eqb code 38) (bareOf OpenText s)
     (cond (eqb code 39) (bareOf CloseText s)
     (cond (eqb code 42) (textOf s)
@@ -27,7 +28,17 @@ parsedOf code s =
     (cond (eqb code 70) (drawerOf s)
     (cond (eqb code 74) (bareOf Status s)
     (cond (eqb code 97) (bareOf Rates s)
-    Unknown)))))))))))))
+    (cond (eqb code 100) (showOf s)
+    Unknown))))))))))))))
+
+-- PROTOCOL 1.4, 5.17: 10h in the data of any known command but 100 is 1; an unknown one stays 2
+abbrev pub notMarked : Parsed → Parsed
+notMarked (Read c) = Syntax
+notMarked Syntax = Syntax
+notMarked Unknown = Unknown
+
+abbrev pub parsedOf : ℕ → List ℕ → Parsed
+parsedOf code s = cond (not (eqb code 100) && has 0x10 s) (notMarked (formOf code s)) (formOf code s)
 
 -- PROTOCOL 4.7: the texts of a command, for whoever shows them, as parts of the data. 42 has one, 49 and 53 have L1 and L2, the others none
 abbrev pub firstText : ℕ → List ℕ → List ℕ

@@ -3,11 +3,40 @@ use kinds::Command;
 use kinds::Parsed;
 use kinds::plain;
 ghost use mathlib.Core.Path.{_≡_};
-ghost use Rattle.command.specs.Commands.{parsedOf, firstText, secondText};
+ghost use Rattle.command.specs.Commands.{formOf, notMarked, parsedOf, firstText, secondText};
 
-// Any command: its kind with its fields; or 1, where the data is not of its form; or 2, where CMD is none of the fourteen.
+// Of 100, whose data alone may hold 10h.
+const SHOW: u8 = 100;
+
+const MARK: u8 = 0x10;
+
+// Any command: its kind with its fields; or 1, where the data is not of its form; or 2, where CMD is none of the fifteen.
 pub fn parse(code: u8, bytes: &[u8]) -> Parsed
     ensures { λ r. ⌜ r ≡ parsedOf code (now (bytes .entry)) ⌝ }
+{
+    let parsed = form_of(code, bytes);
+    if code == SHOW {
+        return parsed;
+    }
+    if text::find(bytes, MARK) == bytes.len() {
+        return parsed;
+    }
+    not_marked(parsed)
+}
+
+// What the data holds makes a known command 1.
+fn not_marked(parsed: Parsed) -> Parsed
+    ensures { λ r. ⌜ r ≡ notMarked parsed ⌝ }
+{
+    match parsed {
+        Parsed::Read(_) => Parsed::Syntax,
+        Parsed::Syntax => Parsed::Syntax,
+        Parsed::Unknown => Parsed::Unknown,
+    }
+}
+
+fn form_of(code: u8, bytes: &[u8]) -> Parsed
+    ensures { λ r. ⌜ r ≡ formOf code (now (bytes .entry)) ⌝ }
 {
     match code {
         38 => plain::bare(Command::OpenText, bytes),
@@ -24,6 +53,7 @@ pub fn parse(code: u8, bytes: &[u8]) -> Parsed
         70 => money::drawer(bytes),
         74 => plain::bare(Command::Status, bytes),
         97 => plain::bare(Command::Rates, bytes),
+        100 => plain::show_text(bytes),
         _ => Parsed::Unknown,
     }
 }

@@ -10,6 +10,8 @@ use denote.Builtin.{usize}
 use denote.Steps.{only}
 use denote.Struct.Laws as LL
 use denote.Enum.Laws as LE
+use Rattle.display.proofs.Display as X
+use Rattle.display.proofs.Display.Laws as X′
 use Rattle.kinds.proofs.Parsed as P
 use Rattle.kinds.proofs.Parsed.Laws as P′
 use Rattle.line.proofs.Call as C
@@ -43,7 +45,8 @@ pub record BegunApart (b : Begun) (v : Val) : Type 0 where
   pub cv : Val
   pub pv : Val
   pub wv : Val
-  pub is-so : v ≡ vstruct (vcons dv (vcons cv (vcons (vint w64 (b .taken)) (vcons pv (vcons (vint w64 (b .lines)) (vcons wv (vcons (vbool (b .enough)) vnil)))))))
+  pub xv : Val
+  pub is-so : v ≡ vstruct (vcons dv (vcons cv (vcons (vint w64 (b .taken)) (vcons pv (vcons (vint w64 (b .lines)) (vcons wv (vcons xv (vcons (vbool (b .enough)) vnil))))))))
   pub lines-is : Is usize (b .lines) (vint w64 (b .lines) ∷ [])
   pub wanted-is : Is L.the-row (b .wanted) (wv ∷ [])
 
@@ -55,6 +58,7 @@ apart-begun b v is =
       cv = LE.val C.the-type C′.the-laws (b .call);
       pv = LE.val P.the-type P′.the-laws (b .parsed);
       wv = LL.val L.the-type L′.the-laws (b .wanted);
+      xv = LE.val X.the-type X′.the-laws (b .shows);
       is-so = ap only (LL.tells B.the-type B′.the-laws b _ is);
       lines-is = each .1 .1 .1 .1 .0;
       wanted-is = each .1 .1 .1 .1 .1 .0;
@@ -79,32 +83,33 @@ apart-ended e v is =
     }
 
 -- m is what `length_of` says, i and r what `find` and `get` bring
-in-turn : (d : Device) (frame last buffer : List ℕ) (ys : List Line) (bytes : List ℕ) (m : ℕ) (b : Begun) (fs : List ℕ) (i : ℕ) (r : Line) (e : Ended) (ls ws : List ℕ) (zs : List Line)
+in-turn : (d : Device) (frame last buffer display : List ℕ) (ys : List Line) (bytes : List ℕ) (m : ℕ) (b : Begun) (fs ds : List ℕ) (i : ℕ) (r : Line) (e : Ended) (ls ws : List ℕ) (zs : List Line)
     → m ≡ length ys
-    → record { begun = b; frame = fs } ≡ beginning d frame (length buffer) m bytes
+    → record { begun = b; frame = fs; display = ds } ≡ beginning d frame display (length buffer) m bytes
     → i ≡ newest ys (b .wanted) (b .lines) (b .lines)
     → r ≡ getD ys i blank
     → record { ended = e; last = ls; buffer = ws } ≡ ending b i r last buffer
     → zs ≡ written ys (e .writes)
-    → partOf (e .hearing) fs ls ws zs (length ys) ≡ together d frame last buffer ys bytes
-in-turn d frame last buffer ys bytes m b fs i r e ls ws zs says-length begins finds gets ends tells =
-    ap (λ (z : List Line). partOf (e .hearing) fs ls ws z (length ys)) tells
-    ∙ ap (λ (h : SecondHalf). putTogether (record { begun = b; frame = fs }) h ys) ends
-    ∙ ap (λ (l : Line). putTogether (record { begun = b; frame = fs }) (ending b i l last buffer) ys) gets
-    ∙ ap (λ (j : ℕ). putTogether (record { begun = b; frame = fs }) (ending b j (getD ys j blank) last buffer) ys) finds
+    → partOf (e .hearing) fs ls ws ds zs (length ys) ≡ together d frame last buffer display ys bytes
+in-turn d frame last buffer display ys bytes m b fs ds i r e ls ws zs says-length begins finds gets ends tells =
+    let first : FirstHalf = record { begun = b; frame = fs; display = ds } in
+    ap (λ (z : List Line). partOf (e .hearing) fs ls ws ds z (length ys)) tells
+    ∙ ap (λ (h : SecondHalf). putTogether first h ys) ends
+    ∙ ap (λ (l : Line). putTogether first (ending b i l last buffer) ys) gets
+    ∙ ap (λ (j : ℕ). putTogether first (ending b j (getD ys j blank) last buffer) ys) finds
     ∙ ap (λ (f : FirstHalf). goingOn f last buffer ys) begins
-    ∙ ap (λ (k : ℕ). goingOn (beginning d frame (length buffer) k bytes) last buffer ys) says-length
+    ∙ ap (λ (k : ℕ). goingOn (beginning d frame display (length buffer) k bytes) last buffer ys) says-length
 
 -- so they are the call
-pub the-call : (d : Device) (frame last buffer : List ℕ) (ys : List Line) (bytes : List ℕ) (m : ℕ) (b : Begun) (fs : List ℕ) (i : ℕ) (r : Line) (e : Ended) (ls ws : List ℕ) (zs : List Line)
+pub the-call : (d : Device) (frame last buffer display : List ℕ) (ys : List Line) (bytes : List ℕ) (m : ℕ) (b : Begun) (fs ds : List ℕ) (i : ℕ) (r : Line) (e : Ended) (ls ws : List ℕ) (zs : List Line)
     → m ≡ length ys
-    → record { begun = b; frame = fs } ≡ beginning d frame (length buffer) m bytes
+    → record { begun = b; frame = fs; display = ds } ≡ beginning d frame display (length buffer) m bytes
     → i ≡ newest ys (b .wanted) (b .lines) (b .lines)
     → r ≡ getD ys i blank
     → record { ended = e; last = ls; buffer = ws } ≡ ending b i r last buffer
     → zs ≡ written ys (e .writes)
     → e .hearing .given .count ≤ 217
-    → partOf (e .hearing) fs ls ws zs (length ys) ≡ afterPart (record { device = d; frame = frame; last = last; sheet = ys }) (record { buffer = buffer; lines = length ys }) bytes
-the-call d frame last buffer ys bytes m b fs i r e ls ws zs says-length begins finds gets ends tells few =
-    let both = in-turn d frame last buffer ys bytes m b fs i r e ls ws zs says-length begins finds gets ends tells in
-    both ∙ joined d last buffer ys frame bytes (subst (λ (p : PartHeard). p .after .count ≤ 217) both few)
+    → partOf (e .hearing) fs ls ws ds zs (length ys) ≡ afterPart (record { device = d; frame = frame; last = last; sheet = ys }) (record { buffer = buffer; lines = length ys; display = display }) bytes
+the-call d frame last buffer display ys bytes m b fs ds i r e ls ws zs says-length begins finds gets ends tells few =
+    let both = in-turn d frame last buffer display ys bytes m b fs ds i r e ls ws zs says-length begins finds gets ends tells in
+    both ∙ joined d last buffer display ys frame bytes (subst (λ (p : PartHeard). p .after .count ≤ 217) both few)

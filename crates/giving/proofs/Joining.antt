@@ -7,8 +7,7 @@ use native.Mathlib.Omega.{arith}
 use lib.Dec.{leb}
 use lib.ListN.{length, take, drop, getD}
 use lib.Seq.{sets}
-use borrow.Author.Tests.{leb-true}
-use Rattle.basics.proofs.Tests.{both}
+use borrow.Author.Tests.{le-leb}
 use Rattle.kinds.specs.declared.Parsed.{Parsed}
 use Rattle.command.specs.Commands.{parsedOf}
 use Rattle.sheet.specs.Sheet.{blank}
@@ -31,17 +30,18 @@ use Rattle.carrying.proofs.Working.{worked-long}
 use Rattle.machine.specs.Device.{Lent, enough, Machine, notTaken}
 use Rattle.machine.specs.Answering.{answering}
 use Rattle.machine.specs.Hearing.{PartHeard, partOf, hearing, afterPart}
-use Rattle.machine.specs.Beginning.{longEnough, askedOf, begunBy, notBegun, FirstHalf}
+use Rattle.machine.specs.Beginning.{longEnough, begunWith, notBegun, FirstHalf}
 use Rattle.giving.specs.Ending.{SecondHalf, endedWith, carriedBehind, endingAs, ending}
 use Rattle.giving.specs.Together.{putTogether, searchedAt, goingOn, together}
 use Rattle.machine.specs.declared.Begun.{Begun}
 use Rattle.machine.specs.declared.Device.{Device}
+use Rattle.machine.proofs.Room.{long}
 use Rattle.machine.proofs.Working.{front-stands}
 use Rattle.machine.proofs.Parts.{at, halves, two-halves, part-long}
 
-module _ (d : Device) (last buffer : List ℕ) (sheet : List Line) where
+module _ (d : Device) (last buffer display : List ℕ) (sheet : List Line) where
   abbrev lent : Lent
-  lent = record { buffer = buffer; lines = length sheet }
+  lent = record { buffer = buffer; lines = length sheet; display = display }
 
   -- the device behind what was listened to
   abbrev here : Port → List ℕ → Machine
@@ -52,7 +52,7 @@ module _ (d : Device) (last buffer : List ℕ) (sheet : List Line) where
     heard c = record { line = line; call = c; taken = taken }
 
     abbrev firstHalf : Call → FirstHalf
-    firstHalf c = record { begun = begunBy (d .books) (heard c) (askedOf (d .books) c frame); frame = frame }
+    firstHalf c = begunWith (d .books) (heard c) frame display
 
     abbrev found : Call → ℕ
     found c = searchedAt (firstHalf c) sheet
@@ -63,9 +63,19 @@ module _ (d : Device) (last buffer : List ℕ) (sheet : List Line) where
     -- where nothing is carried out, what is written is what stood there
     quiet : (c : Call) (number : ℕ) (bytes : List ℕ)
         → putTogether (firstHalf c) (endedWith (firstHalf c .begun) number (found c) (getD sheet (found c) blank) last buffer bytes) sheet
-        ≡ record { after = record { machine = here line frame; lent = record { buffer = sets buffer 0 bytes; lines = length sheet }; number = number; count = length bytes }; call = c; taken = taken }
+        ≡ record {
+          after = record {
+            machine = here line frame;
+            lent = record { buffer = sets buffer 0 bytes; lines = length sheet; display = firstHalf c .display };
+            number = number;
+            count = length bytes;
+            shows = firstHalf c .begun .shows;
+          };
+          call = c;
+          taken = taken;
+        }
     quiet c number bytes =
-        ap (λ z. partOf (endedWith (firstHalf c .begun) number (found c) (getD sheet (found c) blank) last buffer bytes .ended .hearing) frame last (sets buffer 0 bytes) z (length sheet))
+        ap (λ z. partOf (endedWith (firstHalf c .begun) number (found c) (getD sheet (found c) blank) last buffer bytes .ended .hearing) frame last (sets buffer 0 bytes) (firstHalf c .display) z (length sheet))
         (writes-note note.Nothing sheet (found c) (found c))
 
     ordered : (seq code n : ℕ) → ends (Order seq code n) .ended .hearing .given .count ≤ 217
@@ -85,8 +95,8 @@ module _ (d : Device) (last buffer : List ℕ) (sheet : List Line) where
         let by : Worked → PartHeard = λ w. putTogether (firstHalf c) (carriedBehind b seq code i l last w) sheet in
         let result = carriedBehind b seq code i l last (workDone (d .books) seq code deed buffer) in
         ap by done
-        ∙ ap (λ z. partOf (result .ended .hearing) frame (sets last 0 z) (sets buffer 0 answer) (by (workDone (d .books) seq code deed buffer) .after .machine .sheet) (length sheet)) (front-stands buffer answer (omega (arith, short, room)))
-        ∙ ap (λ z. partOf (result .ended .hearing) frame (sets last 0 answer) (sets buffer 0 answer) z (length sheet)) (writes-note (deed .note) sheet i (d .books .receipt .lines))
+        ∙ ap (λ z. partOf (result .ended .hearing) frame (sets last 0 z) (sets buffer 0 answer) (firstHalf c .display) (by (workDone (d .books) seq code deed buffer) .after .machine .sheet) (length sheet)) (front-stands buffer answer (omega (arith, short, room)))
+        ∙ ap (λ z. partOf (result .ended .hearing) frame (sets last 0 answer) (sets buffer 0 answer) (firstHalf c .display) z (length sheet)) (writes-note (deed .note) sheet i (d .books .receipt .lines))
 
     by-call : (c : Call) → ends c .ended .hearing .given .count ≤ 217
         → putTogether (firstHalf c) (ends c) sheet ≡ record { after = answering c (here line frame) lent; call = c; taken = taken }
@@ -106,12 +116,12 @@ module _ (d : Device) (last buffer : List ℕ) (sheet : List Line) where
     kept = frameBehind (d .line) frame bytes
 
     abbrev first : Bool → FirstHalf
-    first long = cond long (record { begun = begunBy (d .books) x (askedOf (d .books) (x .call) kept); frame = kept }) (record { begun = notBegun d; frame = frame })
+    first long = cond long (begunWith (d .books) x kept display) (record { begun = notBegun d; frame = frame; display = display })
 
     unheard : goingOn (first false) last buffer sheet ≡ record { after = notTaken machine lent; call = Quiet; taken = 0 }
     unheard =
         let i = searchedAt (first false) sheet in
-        ap (λ z. partOf (endedWith (notBegun d) 7 i (getD sheet i blank) last buffer [] .ended .hearing) frame last buffer z (length sheet)) (writes-note note.Nothing sheet i i)
+        ap (λ z. partOf (endedWith (notBegun d) 7 i (getD sheet i blank) last buffer [] .ended .hearing) frame last buffer display z (length sheet)) (writes-note note.Nothing sheet i i)
 
     all-heard : 217 ≤ length buffer → leb 217 (length buffer) ≡ true → goingOn (first true) last buffer sheet .after .count ≤ 217
         → goingOn (first true) last buffer sheet ≡ hearing machine lent bytes
@@ -125,12 +135,12 @@ module _ (d : Device) (last buffer : List ℕ) (sheet : List Line) where
         ∙ by-call room (x .line) (x .taken) kept (x .call) (subst (λ (z : SecondHalf). z .ended .hearing .given .count ≤ 217) so few)
         ∙ two-halves (d .books) last sheet lent bytes (d .line) frame
 
-    pub joined : together d frame last buffer sheet bytes .after .count ≤ 217 → together d frame last buffer sheet bytes ≡ afterPart machine lent bytes
+    pub joined : together d frame last buffer display sheet bytes .after .count ≤ 217 → together d frame last buffer display sheet bytes ≡ afterPart machine lent bytes
     joined = go (enough lent) refl
       where
-        go : (long : Bool) → enough lent ≡ long → goingOn (first long) last buffer sheet .after .count ≤ 217
-            → goingOn (first long) last buffer sheet ≡ cond long (hearing machine lent bytes) (record { after = notTaken machine lent; call = Quiet; taken = 0 })
+        go : (all : Bool) → enough lent ≡ all → goingOn (first all) last buffer sheet .after .count ≤ 217
+            → goingOn (first all) last buffer sheet ≡ cond all (hearing machine lent bytes) (record { after = notTaken machine lent; call = Quiet; taken = 0 })
         go false e few = unheard
         go true e few =
-            let two = both (leb 217 (length buffer)) (leb 512 (length sheet)) e in
-            all-heard (leb-true 217 (length buffer) (two .0)) (two .0) few
+            let room = long lent e .room in
+            all-heard room (le-leb 217 (length buffer) room) few

@@ -31,7 +31,7 @@ endedBy b g w = record { hearing = record { given = g; call = b .call; taken = b
 
 -- nothing is carried out: the device stays, and so does the sheet
 abbrev pub stayingWith : Begun → (number count at : ℕ) → Line → Ended
-stayingWith b number count at found = endedBy b (record { device = b .device; number = number; count = count }) (putBack false at found)
+stayingWith b number count at found = endedBy b (record { device = b .device; number = number; count = count; shows = b .shows }) (putBack false at found)
 
 abbrev pub endedWith : Begun → (number at : ℕ) → Line → (last buffer bytes : List ℕ) → SecondHalf
 endedWith b number at found last buffer bytes =
@@ -45,6 +45,7 @@ handsBack b seq code w at found =
       device = record { line = record { reader = b .device .line .reader; previous = Frame seq code (w .count) }; books = w .books };
       number = w .number;
       count = w .count;
+      shows = b .shows;
     })
     (writesOf (w .note) at found (b .device .books .receipt .lines))
 

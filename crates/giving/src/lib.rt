@@ -54,12 +54,14 @@ fn end_with(begun: Begun, number: u64, count: usize, at: usize, found: Line) -> 
 {
     let device = begun.device;
     let call = begun.call;
+    let shows = begun.shows;
     Ended {
         hearing: Hearing {
             given: Given {
                 device,
                 number,
                 count,
+                shows,
             },
             call,
             taken: begun.taken,
@@ -148,6 +150,7 @@ fn carried_out(begun: Begun, seq: u8, code: u8, work: Work, at: usize, found: Li
     let line = device.line;
     let reader = line.reader;
     let call = begun.call;
+    let shows = begun.shows;
     let note = work.note;
     let after = work.books;
     let previous = Previous::Frame {
@@ -164,6 +167,7 @@ fn carried_out(begun: Begun, seq: u8, code: u8, work: Work, at: usize, found: Li
                 },
                 number: work.number,
                 count: work.count,
+                shows,
             },
             call,
             taken: begun.taken,

@@ -16,20 +16,21 @@ freshKept = record { device = freshFields; sheet = replicate 512 blank }
 abbrev pub machineOf : Kept → (frame last : List ℕ) → Machine
 machineOf k frame last = record { device = k .device; frame = frame; last = last; sheet = k .sheet }
 
--- what a call brought, as the code has it: what it hands back, and the arrays and the buffer behind the call, with as many lines lent
-abbrev pub nextWith : Next → (frame last buffer : List ℕ) → (lines : ℕ) → PartHeard
-nextWith n frame last buffer lines =
+-- what a call brought, as the code has it: what it hands back, and the arrays and the buffers behind the call, with as many lines lent
+abbrev pub nextWith : Next → (frame last buffer display : List ℕ) → (lines : ℕ) → PartHeard
+nextWith n frame last buffer display lines =
     record {
       after = record {
         machine = machineOf (n .kept) frame last;
-        lent = record { buffer = buffer; lines = lines };
+        lent = record { buffer = buffer; lines = lines; display = display };
         number = n .number;
         count = n .count;
+        shows = n .shows;
       };
       call = n .call;
       taken = n .taken;
     }
 
 -- PROTOCOL 8.8: all lines are lent
-abbrev pub nextOf : Next → (frame last buffer : List ℕ) → PartHeard
-nextOf n frame last buffer = nextWith n frame last buffer 512
+abbrev pub nextOf : Next → (frame last buffer display : List ℕ) → PartHeard
+nextOf n frame last buffer display = nextWith n frame last buffer display 512

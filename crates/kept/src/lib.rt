@@ -1,5 +1,6 @@
 // A device with its sheet by value, for callers that cannot lend a slice of records (DECISIONS 72).
 use device::hear;
+use display::Display;
 use line::Call;
 use machine::Device;
 use machine::Hearing;
@@ -19,12 +20,14 @@ pub struct Kept {
     pub sheet: [Line; MOST_LINES],
 }
 
-// A call: the device and its sheet behind it, what the bytes asked for, the reply number, the bytes given back, the bytes taken.
+// A call: the device and its sheet behind it, what the bytes asked for, the reply number, the bytes given back, what the display shows,
+// the bytes taken.
 pub struct Next {
     pub kept: Kept,
     pub call: Call,
     pub number: u64,
     pub count: usize,
+    pub shows: Display,
     pub taken: usize,
 }
 
@@ -52,20 +55,22 @@ pub fn hear_next(
     frame: &mut [u8; FRAME_ROOM],
     last: &mut [u8; ANSWER_ROOM],
     buf: &mut [u8],
+    display: &mut [u8],
     bytes: &[u8],
     from: usize,
 ) -> Next
-    ensures { λ r. ⌜ nextOf r (now (frame .exit)) (now (last .exit)) (now (buf .exit)) ≡ afterPart (machineOf kept (now (frame .entry)) (now (last .entry))) (record { buffer = now (buf .entry); lines = 512 }) (drop from (now (bytes .entry))) ⌝ }
+    ensures { λ r. ⌜ nextOf r (now (frame .exit)) (now (last .exit)) (now (buf .exit)) (now (display .exit)) ≡ afterPart (machineOf kept (now (frame .entry)) (now (last .entry))) (record { buffer = now (buf .entry); lines = 512; display = now (display .entry) }) (drop from (now (bytes .entry))) ⌝ }
     ensures { λ r. ⌜ r .count ≤ 217 ⌝ }
 {
     let device = kept.device;
     let sheet = kept.sheet;
-    let heard = hear_kept(device, frame, last, buf, sheet, bytes, from);
+    let heard = hear_kept(device, frame, last, buf, display, sheet, bytes, from);
     let hearing = heard.hearing;
     let given = hearing.given;
     let after = given.device;
     let lines = heard.sheet;
     let call = hearing.call;
+    let shows = given.shows;
     Next {
         kept: Kept {
             device: after,
@@ -74,6 +79,7 @@ pub fn hear_next(
         call,
         number: given.number,
         count: given.count,
+        shows,
         taken: hearing.taken,
     }
 }
@@ -84,13 +90,14 @@ fn hear_kept(
     frame: &mut [u8; FRAME_ROOM],
     last: &mut [u8; ANSWER_ROOM],
     buf: &mut [u8],
+    display: &mut [u8],
     sheet: [Line; MOST_LINES],
     bytes: &[u8],
     from: usize,
 ) -> KeptHearing
-    ensures { λ r. ⌜ (partOf (r .hearing) (now (frame .exit)) (now (last .exit)) (now (buf .exit)) (r .sheet) 512 ≡ afterPart (record { device = device; frame = now (frame .entry); last = now (last .entry); sheet = sheet }) (record { buffer = now (buf .entry); lines = 512 }) (drop from (now (bytes .entry)))) × (r .hearing .given .count ≤ 217) ⌝ }
+    ensures { λ r. ⌜ (partOf (r .hearing) (now (frame .exit)) (now (last .exit)) (now (buf .exit)) (now (display .exit)) (r .sheet) 512 ≡ afterPart (record { device = device; frame = now (frame .entry); last = now (last .entry); sheet = sheet }) (record { buffer = now (buf .entry); lines = 512; display = now (display .entry) }) (drop from (now (bytes .entry)))) × (r .hearing .given .count ≤ 217) ⌝ }
 {
     let mut s = sheet;
-    let hearing = hear(device, frame, last, buf, &mut s, bytes, from);
+    let hearing = hear(device, frame, last, buf, display, &mut s, bytes, from);
     KeptHearing { hearing, sheet: s }
 }

@@ -8,9 +8,10 @@ use Rattle.wire.specs.Bytes.{within}
 use Rattle.text.specs.Parts.{has, upTo, past}
 use Rattle.figures.specs.Numbers.{fieldOf}
 use Rattle.labels.specs.Texts.{isText}
+use Rattle.display.specs.Display.{canShow}
 use Rattle.kinds.specs.Fields.{fieldThen, comma}
 use Rattle.kinds.specs.declared.Command.{Command}
-use Rattle.kinds.specs.declared.Command.the-variants.{PrintText, Open, Subtotal, Sums, Closing}
+use Rattle.kinds.specs.declared.Command.the-variants.{PrintText, Open, Subtotal, Sums, Closing, ShowText}
 use Rattle.kinds.specs.declared.Parsed.{Parsed}
 use Rattle.kinds.specs.declared.Parsed.the-variants.{Read, Syntax}
 
@@ -56,3 +57,7 @@ abbrev pub closingOf : List ℕ → Parsed
 closingOf [] = Syntax
 closingOf (b ∷ []) = cond (eqb b 0x30) (Read (Closing true)) (cond (eqb b 0x32) (Read (Closing false)) Syntax)
 closingOf (a ∷ b ∷ s) = Syntax
+
+-- PROTOCOL 5.17: 100's data is a text that can be shown
+abbrev pub showOf : List ℕ → Parsed
+showOf s = cond (canShow s) (Read ShowText) Syntax

@@ -1,4 +1,4 @@
-// The fourteen kinds of command, each with its own fields (PROTOCOL 5.1), and the forms that name no sum.
+// The fifteen kinds of command, each with its own fields (PROTOCOL 5.1), and the forms that name no sum.
 pub mod plain;
 
 // Compared digit by digit, so with the number of its digits: 00000 is not 0000.
@@ -53,7 +53,8 @@ pub enum Service {
     Out(u64),
 }
 
-// The fourteen kinds. The texts of 42, 49 and 53 stay in the data: `first_text` and `second_text` of `command` hand them out.
+// The fifteen kinds. The texts of 42, 49, 53 and 100 stay in the data: `first_text` and `second_text` of `command` hand out the printed ones,
+// `display::show` the one that is shown.
 pub enum Command {
     OpenText,
     CloseText,
@@ -80,6 +81,7 @@ pub enum Command {
     Drawer(Service),
     Status,
     Rates,
+    ShowText,
 }
 
 // A command, or reply number 1 or 2.

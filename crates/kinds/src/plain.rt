@@ -4,7 +4,7 @@ use crate::Parsed;
 use crate::Password;
 use figures::Number;
 ghost use mathlib.Core.Path.{_≡_};
-ghost use Rattle.kinds.specs.Plain.{bareOf, textOf, openOf, openWith, subtotalOf, isFlag, sumsOf, closingOf};
+ghost use Rattle.kinds.specs.Plain.{bareOf, textOf, openOf, openWith, subtotalOf, isFlag, sumsOf, closingOf, showOf};
 
 // 38, 39, 56, 60, 74 and 97: no data.
 pub fn bare(command: Command, s: &[u8]) -> Parsed
@@ -131,4 +131,14 @@ pub fn closing(s: &[u8]) -> Parsed
         b'2' => Parsed::Read(Command::Closing { clears: false }),
         _ => Parsed::Syntax,
     }
+}
+
+// 100: its data is a text for the display.
+pub fn show_text(s: &[u8]) -> Parsed
+    ensures { λ r. ⌜ r ≡ showOf (now (s .entry)) ⌝ }
+{
+    if display::can_show(s) {
+        return Parsed::Read(Command::ShowText);
+    }
+    Parsed::Syntax
 }

@@ -1,11 +1,14 @@
 -- Laws of the first half of a call, a branch of the code each.
 use mathlib.Core.Path.{_≡_, sym, ap, _∙_}
 use mathlib.Core.Bool.{Bool, true, false, cond}
-use mathlib.Core.List.{List}
+use mathlib.Core.List.{List, _++_, append-nil}
 use Prim.Native.Nat.{ℕ, _+_, _-_, _<_, min}
 use native.Mathlib.Decide.{decLt}
 use native.Mathlib.Omega.{arith}
 use lib.ListN.{length, take, drop, length-drop, drop-of-length-le}
+use Rattle.display.specs.Display.{shownBy, displayOf, displayed}
+use Rattle.display.specs.declared.Display.{Display}
+use Rattle.display.specs.declared.Display.the-variants.{Stays}
 use Rattle.kinds.specs.declared.Parsed.{Parsed}
 use Rattle.kinds.specs.declared.Parsed.the-variants.{Unknown}
 use Rattle.command.specs.Commands.{parsedOf}
@@ -18,42 +21,62 @@ use Rattle.line.specs.declared.Call.{Call}
 use Rattle.line.specs.declared.Call.the-variants.{Quiet, Order}
 use Rattle.line.specs.declared.Listened.{Listened}
 use Rattle.carrying.specs.Carrying.{searchIn}
-use Rattle.machine.specs.Beginning.{longEnough, asking, askedOf, begunBy, notBegun, FirstHalf, beginning}
+use Rattle.machine.specs.Beginning.{longEnough, asking, textsBy, askedOf, begunBy, begunWith, notBegun, FirstHalf, beginning}
 use Rattle.machine.specs.declared.Asked.{Asked}
 use Rattle.machine.specs.declared.Device.{Device}
 use Rattle.machine.proofs.Working.{take-min, take-all}
 
--- an order's data, read, and what it looks for
-pub asked-is : (b : Books) (call : Call) (frame : List ℕ) (s c n k : ℕ) (p : Parsed) (q : Search) → call ≡ Order s c n → length frame ≡ 256 → k ≡ min n 253
-    → p ≡ parsedOf c (take (k + 3 - 3) (drop 3 frame)) → q ≡ searchIn b p → record { parsed = p; search = q } ≡ askedOf b call frame
-asked-is b call frame s c n k p q ec size ek ep eq =
-    let e : k + 3 - 3 ≡ min n 253 = omega (arith, ek) in
-    let cut : take (k + 3 - 3) (drop 3 frame) ≡ take n (drop 3 frame) = ap (λ i. take i (drop 3 frame)) e ∙ take-min n 253 (drop 3 frame) (omega (arith, length-drop 3 frame, size)) in
-    ap (λ z. record { parsed = p; search = z }) eq ∙ ap (asking b) (ep ∙ ap (parsedOf c) cut) ∙ sym (ap (λ z. askedOf b z frame) ec)
+-- an order's data, read, what it looks for, and what it shows
+module _ (b : Books) (call : Call) (frame : List ℕ) (s c n k : ℕ) (ec : call ≡ Order s c n) (size : length frame ≡ 256) (ek : k ≡ min n 253) where
+  abbrev content : List ℕ
+  content = take (k + 3 - 3) (drop 3 frame)
+
+  pub cut : content ≡ take n (drop 3 frame)
+  cut =
+      let e : k + 3 - 3 ≡ min n 253 = omega (arith, ek) in
+      ap (λ i. take i (drop 3 frame)) e ∙ take-min n 253 (drop 3 frame) (omega (arith, length-drop 3 frame, size))
+
+  texts : shownBy c content ≡ textsBy (Order s c n) frame
+  texts = ap (shownBy c) cut ∙ sym (append-nil (shownBy c (take n (drop 3 frame))))
+
+  pub asked-is : (p : Parsed) (q : Search) (x : Display) → p ≡ parsedOf c content → q ≡ searchIn b p → x ≡ displayOf (shownBy c content)
+      → record { parsed = p; search = q; shows = x } ≡ askedOf b call frame
+  asked-is p q x ep eq ex =
+      ap (λ z. record { parsed = p; search = z; shows = x }) eq
+      ∙ ap (λ z. asking b z x) (ep ∙ ap (parsedOf c) cut)
+      ∙ ap (asking b (parsedOf c (take n (drop 3 frame)))) (ex ∙ ap displayOf texts)
+      ∙ sym (ap (λ z. askedOf b z frame) ec)
+
+  pub shown-is : (display display' : List ℕ) → display' ≡ displayed display (shownBy c content) → display' ≡ displayed display (textsBy call frame)
+  shown-is display display' e = e ∙ ap (displayed display) texts ∙ sym (ap (λ z. displayed display (textsBy z frame)) ec)
 
 -- what is heard
-module _ (d : Device) (frame : List ℕ) (room lines : ℕ) (bytes : List ℕ) where
-  abbrev heardAs : FirstHalf
-  heardAs =
-      record {
-        begun = begunBy (d .books) (listenedTo (d .line) frame bytes) (askedOf (d .books) (listenedTo (d .line) frame bytes .call) (frameBehind (d .line) frame bytes));
-        frame = frameBehind (d .line) frame bytes;
-      }
+module _ (d : Device) (frame display : List ℕ) (room lines : ℕ) (bytes : List ℕ) where
+  abbrev listened : Listened
+  listened = listenedTo (d .line) frame bytes
 
   abbrev first : Bool → FirstHalf
-  first long = cond long heardAs (record { begun = notBegun d; frame = frame })
+  first long = cond long (begunWith (d .books) listened (frameBehind (d .line) frame bytes) display) (record { begun = notBegun d; frame = frame; display = display })
 
-  pub too-little : (l : Line) → l ≡ blank → longEnough room lines ≡ false
-      → record { begun = record { device = d; call = Quiet; taken = 0; parsed = Unknown; lines = 0; wanted = l; enough = false }; frame = frame } ≡ beginning d frame room lines bytes
-  too-little l el e =
-      ap (λ z. record { begun = record { device = d; call = Quiet; taken = 0; parsed = Unknown; lines = 0; wanted = z; enough = false }; frame = frame }) el ∙ sym (ap first e)
+  abbrev unbegun : Line → FirstHalf
+  unbegun l =
+      record {
+        begun = record { device = d; call = Quiet; taken = 0; parsed = Unknown; lines = 0; wanted = l; shows = Stays; enough = false };
+        frame = frame;
+        display = display;
+      }
 
-  pub heard-first : (x : Listened) (frame' : List ℕ) (q : Asked) → longEnough room lines ≡ true → x ≡ listenedTo (d .line) frame bytes → frame' ≡ frameBehind (d .line) frame bytes
-      → q ≡ askedOf (d .books) (x .call) frame' → record { begun = begunBy (d .books) x q; frame = frame' } ≡ beginning d frame room lines bytes
-  heard-first x frame' q e ex ef eq =
-      ap (λ z. record { begun = begunBy (d .books) x z; frame = frame' }) eq
-      ∙ ap (λ (z : Listened). record { begun = begunBy (d .books) z (askedOf (d .books) (z .call) frame'); frame = frame' }) ex
-      ∙ ap (λ z. record { begun = begunBy (d .books) (listenedTo (d .line) frame bytes) (askedOf (d .books) (listenedTo (d .line) frame bytes .call) z); frame = z }) ef
+  pub too-little : (l : Line) → l ≡ blank → longEnough room lines (length display) ≡ false → unbegun l ≡ beginning d frame display room lines bytes
+  too-little l el e = ap unbegun el ∙ sym (ap first e)
+
+  pub heard-first : (x : Listened) (frame' display' : List ℕ) (q : Asked) → longEnough room lines (length display) ≡ true → x ≡ listened → frame' ≡ frameBehind (d .line) frame bytes
+      → q ≡ askedOf (d .books) (x .call) frame' → display' ≡ displayed display (textsBy (x .call) frame')
+      → record { begun = begunBy (d .books) x q; frame = frame'; display = display' } ≡ beginning d frame display room lines bytes
+  heard-first x frame' display' q e ex ef eq ed =
+      ap (λ z. record { begun = begunBy (d .books) x z; frame = frame'; display = display' }) eq
+      ∙ ap (λ z. record { begun = begunBy (d .books) x (askedOf (d .books) (x .call) frame'); frame = frame'; display = z }) ed
+      ∙ ap (λ (z : Listened). begunWith (d .books) z frame' display) ex
+      ∙ ap (λ z. begunWith (d .books) listened z display) ef
       ∙ sym (ap first e)
 
 -- the bytes from a place on, all of them

@@ -27,7 +27,7 @@ last-kept m lasts before (n ∷ ns) = length-sets (m .last) 0 (lastAnswer before
 
 module _ (m : Machine) (lasts : length (m .last) ≡ 217) (eights : Eights (m .device .books)) where
   abbrev none : Lent
-  none = record { buffer = []; lines = 0 }
+  none = record { buffer = []; lines = 0; display = [] }
 
   abbrev whole : Place → Message → Bool → Turn Store
   whole next n repeat = cond repeat (againTurn m none next) (orderTurn m none next n)

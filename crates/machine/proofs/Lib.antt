@@ -1,3 +1,4 @@
+pub mod Room
 pub mod Working
 pub mod Beginning
 pub mod Turning

@@ -24,10 +24,12 @@ use Rattle.line.specs.declared.Listened.{Listened}
 use Rattle.sheet.specs.declared.Line.{Line}
 use Rattle.books.specs.declared.Books.{Books}
 use Rattle.store.specs.Store.{Store}
-use Rattle.carrying.specs.Carrying.{carry}
+use Rattle.display.specs.Display.{displayOf, displayed}
+use Rattle.carrying.specs.Carrying.{carry, textsOf}
 use Rattle.machine.specs.Device.{Lent, enough, Machine, storeOf, After, stateOf, machineAfter, taken, notTaken, previousAfter, lastAfter}
 use Rattle.machine.specs.Answering.{answering}
 use Rattle.machine.specs.Hearing.{PartHeard, oneMore, hearing, afterPart, carriedBy}
+use Rattle.machine.specs.Beginning.{textsBy}
 use Rattle.machine.proofs.Working.{front-stands, again-few}
 use Rattle.machine.proofs.Turning.{Standing-in, heard-whole, same-repeat, byte-is, byte-quiet, quiet-is, againTurn, orderTurn, callAt, heardUpTo}
 
@@ -71,7 +73,7 @@ module _ (m : Machine) (lent : Lent) (bytes : List ℕ) where
 -- what a turn leaves in the fields and arrays says the state that it leads to
 module _ (m : Machine) (lasts : length (m .last) ≡ 217) where
   abbrev none : Lent
-  none = record { buffer = []; lines = 0 }
+  none = record { buffer = []; lines = 0; display = [] }
 
   -- a whole frame, by whether it is a repeat
   abbrev whole : Place → Message → Bool → Turn Store
@@ -99,6 +101,15 @@ module _ (m : Machine) (lasts : length (m .last) ≡ 217) where
       go : (repeat : Bool) → whole next n repeat .state .place ≡ next
       go true = refl
       go false = refl
+
+  pub one-at-most : (next : Place) (e : Event) → length (onEvent carry (stateOf m) next e .carried) ≤ 1
+  one-at-most next nothing = omega arith
+  one-at-most next brokenFrame = omega arith
+  one-at-most next (heard n) = go (repeats (beforeOf (m .device .line .previous) (m .last)) n)
+    where
+      go : (repeat : Bool) → length (whole next n repeat .carried) ≤ 1
+      go true = omega arith
+      go false = omega arith
 
   -- and the command carried out is the call's
   call-carried : (next : Place) (e : Event) → ((n : Message) → e ≡ heard n → (next ≡ outside) × Standing-in (m .frame) n) → (frame' : List ℕ) → frame' ≡ keptIn (m .frame) next
@@ -150,12 +161,15 @@ pub record Part (m : Machine) (lent : Lent) (bytes : List ℕ) (h : PartHeard) :
   pub lasts : length (h .after .machine .last) ≡ 217
   pub room : length (h .after .lent .buffer) ≡ length (lent .buffer)
   pub held : Underway ToDevice (stateOf (h .after .machine) .place)
+  -- PROTOCOL 5.17: what its command shows, and nothing else
+  pub shows-is : h .after .shows ≡ displayOf (textsBy (h .call) (h .after .machine .frame))
+  pub display-is : h .after .lent .display ≡ displayed (lent .display) (textsBy (h .call) (h .after .machine .frame))
   pub goes-on : session carry (stateOf m) bytes
       ≡ behind gives (carriedBy (h .call) (h .after .machine .frame)) (session carry (stateOf (h .after .machine)) (drop (h .taken) bytes))
 
 pub part-is : (bytes : List ℕ) (m : Machine) (lent : Lent) → length (m .frame) ≡ 256 → length (m .last) ≡ 217 → 217 ≤ length (lent .buffer)
     → Underway ToDevice (stateOf m .place) → hearing m lent bytes .after .count ≤ 217 → Part m lent bytes (hearing m lent bytes)
-part-is [] m lent frames lasts room held few = record { gives = []; given-is = refl; frames = frames; lasts = lasts; room = refl; held = held; goes-on = refl }
+part-is [] m lent frames lasts room held few = record { gives = []; given-is = refl; frames = frames; lasts = lasts; room = refl; held = held; shows-is = refl; display-is = refl; goes-on = refl }
 part-is (x ∷ xs) m lent frames lasts room held few = go (isQuiet call) refl few (part-is xs)
   where
     call : Call
@@ -214,6 +228,8 @@ part-is (x ∷ xs) m lent frames lasts room held few = go (isQuiet call) refl fe
           lasts = p .lasts;
           room = p .room ∙ length-sets (lent .buffer) 0 (t .gives);
           held = p .held;
+          shows-is = p .shows-is;
+          display-is = p .display-is ∙ ap (λ z. displayed (displayed (lent .display) (textsOf z)) (textsBy (rest .call) (rest .after .machine .frame))) idle;
           goes-on =
               ap (λ (z : State Store). behind (t .gives) (t .carried) (session carry z xs)) (sym (back little))
               ∙ ap (λ z. behind z (t .carried) r) none ∙ ap (λ z. behind [] z r) idle ∙ p .goes-on
@@ -227,6 +243,8 @@ part-is (x ∷ xs) m lent frames lasts room held few = go (isQuiet call) refl fe
           lasts = lasts';
           room = length-sets (lent .buffer) 0 (t .gives);
           held = held' few;
+          shows-is = ap (λ z. displayOf (textsOf z)) now-carried;
+          display-is = ap (λ z. displayed (lent .display) (textsOf z)) now-carried;
           goes-on =
               ap (λ (z : State Store). behind (t .gives) (t .carried) (session carry z xs)) (sym (back few))
               ∙ ap (λ z. behind (t .gives) z (session carry (stateOf (a .machine)) xs)) now-carried;

@@ -22,7 +22,7 @@ use Rattle.line.specs.declared.Port.{Port}
 use Rattle.line.specs.declared.Previous.{Previous}
 use Rattle.line.specs.declared.Previous.the-variants.{Nothing, Frame}
 use Rattle.store.specs.Store.{Store}
-use Rattle.carrying.specs.Carrying.{carry}
+use Rattle.carrying.specs.Carrying.{carry, textsOf}
 use Rattle.machine.specs.Device.{Lent, Machine, storeOf, stateOf, taken}
 use Rattle.machine.specs.Answering.{answering, orders, gives}
 use Rattle.machine.specs.Hearing.{unmoved}
@@ -113,8 +113,8 @@ module _ (m : Machine) (lent : Lent) where
       ≡ taken m lent (cond repeat (againTurn next) (orderTurn next n))
   whole-turn next n true same stands = ap (λ z. gives Again (lastAnswer (beforeOf previous (m .last))) (readingAt next z) lent) (sym same)
   whole-turn next n false same stands =
-      ap (λ z. orders (n .seq) (n .code) (carry (storeOf m) z) (readingAt next (m .frame)) lent) (sym stands)
-      ∙ ap (λ z. orders (n .seq) (n .code) (carry (storeOf m) n) (readingAt next z) lent) (sym same)
+      ap (λ z. orders (n .seq) (n .code) (carry (storeOf m) z) (textsOf (z ∷ [])) (readingAt next (m .frame)) lent) (sym stands)
+      ∙ ap (λ z. orders (n .seq) (n .code) (carry (storeOf m) n) (textsOf (n ∷ [])) (readingAt next z) lent) (sym same)
 
   pub turn-is : (next : Place) (e : Event) → ((n : Message) → e ≡ heard n → (next ≡ outside) × Standing-in (m .frame) n) → (frame : List ℕ) → frame ≡ keptIn (m .frame) next
       → answering (callOf previous e) (readingAt next frame) lent ≡ taken m lent (onEvent carry (stateOf m) next e)

@@ -3,7 +3,10 @@ use Prim.Native.Nat.{ℕ}
 use mathlib.Core.Bool.{Bool, true, false, cond, _&&_}
 use mathlib.Core.List.{List}
 use lib.Dec.{leb}
-use lib.ListN.{take, drop}
+use lib.ListN.{length, take, drop}
+use Rattle.display.specs.Display.{displayOf, displayed}
+use Rattle.display.specs.declared.Display.{Display}
+use Rattle.display.specs.declared.Display.the-variants.{Stays}
 use Rattle.kinds.specs.declared.Parsed.{Parsed}
 use Rattle.kinds.specs.declared.Parsed.the-variants.{Unknown}
 use Rattle.command.specs.Commands.{parsedOf}
@@ -13,24 +16,32 @@ use Rattle.line.specs.Listening.{listenedTo, frameBehind}
 use Rattle.line.specs.declared.Call.{Call}
 use Rattle.line.specs.declared.Call.the-variants.{Quiet, Nak, Again, Order}
 use Rattle.line.specs.declared.Listened.{Listened}
-use Rattle.carrying.specs.Carrying.{searchIn}
+use Rattle.carrying.specs.Carrying.{searchIn, textsOf}
+use Rattle.machine.specs.Hearing.{carriedBy}
 use Rattle.machine.specs.declared.Asked.{Asked}
 use Rattle.machine.specs.declared.Begun.{Begun}
 use Rattle.machine.specs.declared.Device.{Device}
 
 -- PROTOCOL 2.4: as `enough` has it, of lengths
-abbrev pub longEnough : (room lines : ℕ) → Bool
-longEnough room lines = leb 217 room && leb 512 lines
+abbrev pub longEnough : (room lines shown : ℕ) → Bool
+longEnough room lines shown = leb 217 room && leb 512 lines && leb 40 shown
 
 -- PROTOCOL 1.11, 5.4: a command's data, which stands in the frame from its fourth byte on, as it is read, and what it looks for; nothing else looks for anything
-abbrev pub asking : Books → Parsed → Asked
-asking b p = record { parsed = p; search = searchIn b p }
+abbrev pub asking : Books → Parsed → Display → Asked
+asking b p shows = record { parsed = p; search = searchIn b p; shows = shows }
+
+abbrev pub asksNothing : Asked
+asksNothing = record { parsed = Unknown; search = noSearch; shows = Stays }
+
+-- PROTOCOL 5.17: what a call's command shows
+abbrev pub textsBy : Call → (frame : List ℕ) → List (List ℕ)
+textsBy call frame = textsOf (carriedBy call frame)
 
 abbrev pub askedOf : Books → Call → List ℕ → Asked
-askedOf b Quiet frame = record { parsed = Unknown; search = noSearch }
-askedOf b Nak frame = record { parsed = Unknown; search = noSearch }
-askedOf b Again frame = record { parsed = Unknown; search = noSearch }
-askedOf b (Order seq code n) frame = asking b (parsedOf code (take n (drop 3 frame)))
+askedOf b Quiet frame = asksNothing
+askedOf b Nak frame = asksNothing
+askedOf b Again frame = asksNothing
+askedOf b (Order seq code n) frame = asking b (parsedOf code (take n (drop 3 frame))) (displayOf (textsBy (Order seq code n) frame))
 
 -- the first half: the bytes listened to; with too little lent none is
 abbrev pub begunBy : Books → Listened → Asked → Begun
@@ -42,22 +53,25 @@ begunBy b x q =
       parsed = q .parsed;
       lines = q .search .lines;
       wanted = q .search .wanted;
+      shows = q .shows;
       enough = true;
     }
 
 abbrev pub notBegun : Device → Begun
 notBegun d =
-    record { device = d; call = Quiet; taken = 0; parsed = Unknown; lines = 0; wanted = noSearch .wanted; enough = false }
+    record { device = d; call = Quiet; taken = 0; parsed = Unknown; lines = 0; wanted = noSearch .wanted; shows = Stays; enough = false }
 
 pub record FirstHalf : Type 0 where
   pub begun : Begun
   pub frame : List ℕ
+  pub display : List ℕ
 
-abbrev pub beginning : Device → (frame : List ℕ) → (room lines : ℕ) → (bytes : List ℕ) → FirstHalf
-beginning d frame room lines bytes =
-    cond (longEnough room lines)
-    (record {
-      begun = begunBy (d .books) (listenedTo (d .line) frame bytes) (askedOf (d .books) (listenedTo (d .line) frame bytes .call) (frameBehind (d .line) frame bytes));
-      frame = frameBehind (d .line) frame bytes;
-    })
-    (record { begun = notBegun d; frame = frame })
+abbrev pub begunWith : Books → Listened → (frame display : List ℕ) → FirstHalf
+begunWith b x frame display =
+    record { begun = begunBy b x (askedOf b (x .call) frame); frame = frame; display = displayed display (textsBy (x .call) frame) }
+
+abbrev pub beginning : Device → (frame display : List ℕ) → (room lines : ℕ) → (bytes : List ℕ) → FirstHalf
+beginning d frame display room lines bytes =
+    cond (longEnough room lines (length display))
+    (begunWith (d .books) (listenedTo (d .line) frame bytes) (frameBehind (d .line) frame bytes) display)
+    (record { begun = notBegun d; frame = frame; display = display })

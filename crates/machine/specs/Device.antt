@@ -15,17 +15,21 @@ use Rattle.line.specs.declared.Previous.the-variants.{Nothing, Frame}
 use Rattle.sheet.specs.declared.Line.{Line}
 use Rattle.books.specs.Books.{freshBooks}
 use Rattle.store.specs.Store.{Store}
-use Rattle.carrying.specs.Carrying.{carry}
+use Rattle.display.specs.Display.{displayOf, displayed}
+use Rattle.display.specs.declared.Display.{Display}
+use Rattle.display.specs.declared.Display.the-variants.{Stays}
+use Rattle.carrying.specs.Carrying.{carry, textsOf}
 use Rattle.machine.specs.declared.Device.{Device}
 
--- PROTOCOL 2.4: what is lent with each byte, whatever it holds: the buffer for what is given back, and how many lines of the sheet
+-- PROTOCOL 2.4: what is lent with each byte, whatever it holds: the buffer for what is given back, how many lines of the sheet, and the display's buffer
 pub record Lent : Type 0 where
   pub buffer : List ℕ
   pub lines : ℕ
+  pub display : List ℕ
 
 -- PROTOCOL 2.4: all of it is long enough; if not it is 7, before anything else is looked at
 abbrev pub enough : Lent → Bool
-enough lent = leb 217 (length (lent .buffer)) && leb 512 (lent .lines)
+enough lent = leb 217 (length (lent .buffer)) && leb 512 (lent .lines) && leb 40 (length (lent .display))
 
 -- PROTOCOL 8.3, 8.8: a device: its fields, its own two arrays, the bytes since 01h and the last answer, and the sheet, as it left it
 pub record Machine : Type 0 where
@@ -46,12 +50,13 @@ abbrev pub stateOf : Machine → State Store
 stateOf m =
     record { place = placeOf (m .device .line .reader) (m .frame); before = beforeOf (m .device .line .previous) (m .last); store = storeOf m }
 
--- the device and what was lent after one byte: the reply number, and how many bytes are given back
+-- the device and what was lent after one byte: the reply number, how many bytes are given back, and what the display shows
 pub record After : Type 0 where
   pub machine : Machine
   pub lent : Lent
   pub number : ℕ
   pub count : ℕ
+  pub shows : Display
 
 -- PROTOCOL 1.11: a command carried out becomes the frame before, with its answer; nothing else does
 abbrev pub previousAfter : Previous → List Message → Before → Previous
@@ -82,14 +87,15 @@ abbrev pub taken : Machine → Lent → Turn Store → After
 taken m lent t =
     record {
       machine = machineAfter m t;
-      lent = record { buffer = sets (lent .buffer) 0 (t .gives); lines = lent .lines };
+      lent = record { buffer = sets (lent .buffer) 0 (t .gives); lines = lent .lines; display = displayed (lent .display) (textsOf (t .carried)) };
       number = t .number;
       count = length (t .gives);
+      shows = displayOf (textsOf (t .carried));
     }
 
 -- PROTOCOL 2.4: 7, the byte is not taken, and everything stays
 abbrev pub notTaken : Machine → Lent → After
-notTaken m lent = record { machine = m; lent = lent; number = 7; count = 0 }
+notTaken m lent = record { machine = m; lent = lent; number = 7; count = 0; shows = Stays }
 
 -- PROTOCOL 2.4: one byte with this lent
 abbrev pub lentTurn : Lent → State Store → ℕ → Turn Store

@@ -10,6 +10,7 @@ use Rattle.line.specs.declared.Call.{Call}
 use Rattle.line.specs.declared.Call.the-variants.{Quiet, Nak, Again, Order}
 use Rattle.sheet.specs.declared.Line.{Line}
 use Rattle.carrying.specs.Carrying.{carry}
+use Rattle.display.specs.declared.Display.the-variants.{Stays}
 use Rattle.machine.specs.Device.{Lent, enough, Machine, After, stateOf, taken, notTaken}
 use Rattle.machine.specs.declared.Given.{Given}
 use Rattle.machine.specs.declared.Hearing.{Hearing}
@@ -20,26 +21,27 @@ pub record PartHeard : Type 0 where
   pub call : Call
   pub taken : ℕ
 
--- the same as the code has it: what it hands back, and the arrays, the buffer and the sheet behind the call
-abbrev pub afterOf : Given → (frame last buffer : List ℕ) → (sheet : List Line) → (lines : ℕ) → After
-afterOf g frame last buffer sheet lines =
+-- the same as the code has it: what it hands back, and the arrays, the buffers and the sheet behind the call
+abbrev pub afterOf : Given → (frame last buffer display : List ℕ) → (sheet : List Line) → (lines : ℕ) → After
+afterOf g frame last buffer display sheet lines =
     record {
       machine = record { device = g .device; frame = frame; last = last; sheet = sheet };
-      lent = record { buffer = buffer; lines = lines };
+      lent = record { buffer = buffer; lines = lines; display = display };
       number = g .number;
       count = g .count;
+      shows = g .shows;
     }
 
-abbrev pub partOf : Hearing → (frame last buffer : List ℕ) → (sheet : List Line) → (lines : ℕ) → PartHeard
-partOf h frame last buffer sheet lines =
-    record { after = afterOf (h .given) frame last buffer sheet lines; call = h .call; taken = h .taken }
+abbrev pub partOf : Hearing → (frame last buffer display : List ℕ) → (sheet : List Line) → (lines : ℕ) → PartHeard
+partOf h frame last buffer display sheet lines =
+    record { after = afterOf (h .given) frame last buffer display sheet lines; call = h .call; taken = h .taken }
 
 abbrev pub oneMore : PartHeard → PartHeard
 oneMore h = record { after = h .after; call = h .call; taken = h .taken + 1 }
 
 -- no byte heard: number 0, and all stays
 abbrev pub unmoved : Machine → Lent → After
-unmoved m lent = record { machine = m; lent = lent; number = 0; count = 0 }
+unmoved m lent = record { machine = m; lent = lent; number = 0; count = 0; shows = Stays }
 
 -- byte after byte, each a turn of the device; the first that asks for something ends the call
 abbrev pub hearing : Machine → Lent → List ℕ → PartHeard

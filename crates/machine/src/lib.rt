@@ -1,5 +1,7 @@
 // The device as it stands between two bytes, and the first half of a call of it, which does not touch the sheet (PROTOCOL 1.1, 8.3).
 use books::Books;
+use display::Display;
+use display::MOST_SHOWN;
 use kinds::Parsed;
 use line::Call;
 use line::MOST_HELD;
@@ -11,10 +13,9 @@ use sheet::Search;
 use wire::ANSWER_ROOM;
 ghost use mathlib.Core.Path.{_≡_};
 ghost use lib.ListN.{length, drop};
-ghost use Rattle.kinds.specs.declared.Parsed.the-variants.{Unknown};
-ghost use Rattle.sheet.specs.Searches.{noSearch};
+ghost use Rattle.display.specs.Display.{displayed};
 ghost use Rattle.machine.specs.Device.{freshFields};
-ghost use Rattle.machine.specs.Beginning.{longEnough, askedOf, beginning};
+ghost use Rattle.machine.specs.Beginning.{longEnough, asksNothing, textsBy, askedOf, beginning};
 
 // What a device holds by value; its two arrays and the sheet are lent with every call, as it left them.
 pub struct Device {
@@ -22,11 +23,12 @@ pub struct Device {
     pub books: Books,
 }
 
-// What a byte brought: the device afterwards, the reply number, and how many bytes of the lent buffer are given back.
+// What a byte brought: the device afterwards, the reply number, how many bytes of the lent buffer are given back, and what the display shows.
 pub struct Given {
     pub device: Device,
     pub number: u64,
     pub count: usize,
+    pub shows: Display,
 }
 
 // What a part of the line's bytes brought: what the last byte taken asked for and what it was given, and how many bytes were taken.
@@ -36,10 +38,11 @@ pub struct Hearing {
     pub taken: usize,
 }
 
-// A command's data as read, and what it looks for in the sheet.
+// A command's data as read, what it looks for in the sheet, and what it shows.
 pub struct Asked {
     pub parsed: Parsed,
     pub search: Search,
+    pub shows: Display,
 }
 
 // The first half of a call: the bytes heard, what the last of them asks for, and which line is wanted, in how many.
@@ -50,6 +53,7 @@ pub struct Begun {
     pub parsed: Parsed,
     pub lines: usize,
     pub wanted: Line,
+    pub shows: Display,
     pub enough: bool,
 }
 
@@ -63,18 +67,20 @@ pub fn fresh() -> Device
 }
 
 // The first half: bytes of a lent part from a place on are heard, up to and including the first that asks for something. `room` and
-// `lines` are how long the buffer and the sheet are: with too little of either no byte is.
+// `lines` are how long the buffer and the sheet are: with too little of these or of the display's buffer no byte is. What a command
+// shows rests on its data alone, so that it is written here.
 pub fn begin(
     device: Device,
     frame: &mut [u8; FRAME_ROOM],
+    display: &mut [u8],
     room: usize,
     lines: usize,
     bytes: &[u8],
     from: usize,
 ) -> Begun
-    ensures { λ r. ⌜ record { begun = r; frame = now (frame .exit) } ≡ beginning device (now (frame .entry)) room lines (drop from (now (bytes .entry))) ⌝ }
+    ensures { λ r. ⌜ record { begun = r; frame = now (frame .exit); display = now (display .exit) } ≡ beginning device (now (frame .entry)) (now (display .entry)) room lines (drop from (now (bytes .entry))) ⌝ }
 {
-    if !is_enough(room, lines) {
+    if !is_enough(room, lines, display.len()) {
         return Begun {
             device,
             call: Call::Quiet,
@@ -82,6 +88,7 @@ pub fn begin(
             parsed: Parsed::Unknown,
             lines: 0,
             wanted: sheet::blank_line(),
+            shows: Display::Stays,
             enough: false,
         };
     }
@@ -91,10 +98,11 @@ pub fn begin(
     let listened = line::listen(line, frame, &bytes[start..bytes.len()]);
     let next = listened.line;
     let call = listened.call;
-    let asked = ask(books, call, &*frame);
+    let asked = ask(books, call, &*frame, display);
     let parsed = asked.parsed;
     let search = asked.search;
     let wanted = search.wanted;
+    let shows = asked.shows;
     Begun {
         device: Device { line: next, books },
         call,
@@ -102,21 +110,23 @@ pub fn begin(
         parsed,
         lines: search.lines,
         wanted,
+        shows,
         enough: true,
     }
 }
 
 // Whether all that is lent is long enough.
-fn is_enough(room: usize, lines: usize) -> bool
-    ensures { λ r. ⌜ r ≡ longEnough room lines ⌝ }
+fn is_enough(room: usize, lines: usize, shown: usize) -> bool
+    ensures { λ r. ⌜ r ≡ longEnough room lines shown ⌝ }
 {
-    (ANSWER_ROOM <= room) & (MOST_LINES <= lines)
+    (ANSWER_ROOM <= room) & (MOST_LINES <= lines) & (MOST_SHOWN <= shown)
 }
 
 // An order's data stands in the frame from its fourth byte on.
-fn ask(books: Books, call: Call, frame: &[u8]) -> Asked
+fn ask(books: Books, call: Call, frame: &[u8], display: &mut [u8]) -> Asked
     requires { ⌜ length (now frame) ≡ 256 ⌝ }
     ensures { λ r. ⌜ r ≡ askedOf books call (now (frame .entry)) ⌝ }
+    ensures { λ r. ⌜ now (display .exit) ≡ displayed (now (display .entry)) (textsBy call (now (frame .entry))) ⌝ }
 {
     match call {
         Call::Quiet => ask_nothing(),
@@ -130,17 +140,23 @@ fn ask(books: Books, call: Call, frame: &[u8]) -> Asked
             let end = basics::least_size(count, MOST_HELD) + 3;
             let parsed = command::parse(code, &frame[3..end]);
             let search = carrying::search_in(books, parsed);
-            Asked { parsed, search }
+            let shows = display::show(code, &frame[3..end], display);
+            Asked {
+                parsed,
+                search,
+                shows,
+            }
         }
     }
 }
 
 fn ask_nothing() -> Asked
-    ensures { λ r. ⌜ r ≡ record { parsed = Unknown; search = noSearch } ⌝ }
+    ensures { λ r. ⌜ r ≡ asksNothing ⌝ }
 {
     let search = rules::searches::no_search();
     Asked {
         parsed: Parsed::Unknown,
         search,
+        shows: Display::Stays,
     }
 }

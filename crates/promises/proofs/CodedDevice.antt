@@ -4,10 +4,7 @@ use mathlib.Core.Bool.{Bool, true, false, cond}
 use mathlib.Core.List.{List, [], _∷_}
 use Prim.Native.Nat.{ℕ, _≤_}
 use native.Mathlib.Omega.{arith}
-use lib.Dec.{leb}
 use lib.ListN.{length}
-use borrow.Author.Tests.{leb-true}
-use Rattle.basics.proofs.Tests.{both}
 use Rattle.wire.specs.declared.Way.the-variants.{ToDevice}
 use Rattle.reader.specs.Reading.{Place, Event, nothing, brokenFrame, heard, Read, read}
 use Rattle.reader.proofs.Holding.{Underway, underway-few, underway-read}
@@ -21,9 +18,11 @@ use Rattle.line.specs.declared.Call.the-variants.{Quiet, Nak, Again, Order}
 use Rattle.store.specs.Store.{Store}
 use Rattle.carrying.specs.Carrying.{carry}
 use Rattle.carrying.proofs.Eights.{Eights}
+use Rattle.carrying.proofs.Texts.{texts-stand}
 use Rattle.machine.specs.Device as device
 use Rattle.machine.specs.Hearing.{PartHeard, oneMore, hearing, afterPart}
-use Rattle.machine.proofs.Parts.{state-back, place-kept}
+use Rattle.machine.proofs.Room.{long}
+use Rattle.machine.proofs.Parts.{state-back, place-kept, one-at-most}
 use Rattle.machine.proofs.Working.{front-stands}
 use Rattle.machine.proofs.Fitting.{few-given, last-kept, sheet-kept}
 use Rattle.till.specs.Turns as till
@@ -64,6 +63,9 @@ module _ (m : device.Machine) (ok : DeviceOk m) where
       few : length (turned e .gives) ≤ 217
       few = few-given m (ok .lasts) eight (at .place) e
 
+      few-carried : length (turned e .carried) ≤ 1
+      few-carried = one-at-most m (ok .lasts) (at .place) e
+
       back : device.stateOf (after e .machine) ≡ turned e .state
       back =
           subst (λ z. device.stateOf (after z .machine) ≡ turned z .state) is
@@ -93,7 +95,7 @@ module _ (m : device.Machine) (ok : DeviceOk m) where
             (by-the-device bench lent x))
 
         result : DeviceResult (after e) (ofDevice lent (turned e))
-        result = record { number = refl; count = refl; bytes = front-stands (lent .buffer) (turned e .gives) (omega (arith, few, leb-true 217 (length (lent .buffer)) (both (leb 217 (length (lent .buffer))) (leb 512 (lent .lines)) room .0))); lent = refl; state = back }
+        result = record { number = refl; count = refl; bytes = front-stands (lent .buffer) (turned e .gives) (omega (arith, few, long lent room .room)); told = refl; texts = texts-stand (turned e .carried) few-carried (lent .display) (long lent room .display); lent = refl; state = back }
 
 -- a part of bytes heard, by the table
 pub record HeardBy (t : till.State) (m : device.Machine) (lent : device.Lent) (bytes : List ℕ) (p : PartHeard) : Type 0 where
@@ -121,7 +123,7 @@ module _ (t : till.State) (lent : device.Lent) (room : device.enough lent ≡ tr
       record {
         reply = tells 0 [] lent (device.stateOf m);
         by = no-byte room;
-        result = record { number = refl; count = refl; bytes = refl; lent = refl; state = refl };
+        result = record { number = refl; count = refl; bytes = refl; told = refl; texts = refl; lent = refl; state = refl };
         few = omega arith;
         ok = ok;
       }
@@ -174,7 +176,7 @@ device-called t m ok lent bytes = go (device.enough lent) refl
         record {
           reply = tells 7 [] lent (device.stateOf m);
           by = not-taken e (λ byte. at-device (row-7 e));
-          result = record { number = refl; count = refl; bytes = refl; lent = refl; state = refl };
+          result = record { number = refl; count = refl; bytes = refl; told = refl; texts = refl; lent = refl; state = refl };
           few = omega arith;
           ok = ok;
         }

@@ -162,7 +162,7 @@ module _ (sheet : List Line) (lines : 512 ≤ length sheet) where
       go Unknown no-kind = omega arith
 
 -- and the books behind all calls of the running code, in whatever parts and with whatever buffers it hears the bytes
-pub and-those-of-the-calls : (f g : Machines) → Fresh f → (bytes gives : List ℕ) → HeardThrough f bytes gives g
+pub and-those-of-the-calls : (f g : Machines) → Fresh f → (bytes gives : List ℕ) (texts : List (List ℕ)) → HeardThrough f bytes gives texts g
     → storeOf (g .device) .books ≡ toldBooks (entriesOf (f .device .sheet) (alwaysLent bytes))
-and-those-of-the-calls f g fresh bytes gives h =
-    ap (λ (z : Store). z .books) (the-calls-are-the-recording f g fresh bytes gives h .1) ∙ and-those-of-a-recording (f .device .sheet) (fresh .sheet) bytes
+and-those-of-the-calls f g fresh bytes gives texts h =
+    ap (λ (z : Store). z .books) (the-calls-are-the-recording f g fresh bytes gives texts h .1 .0) ∙ and-those-of-a-recording (f .device .sheet) (fresh .sheet) bytes

@@ -29,7 +29,7 @@ use Rattle.delivery.proofs.Ended.{ended-by-the-next}
 use Rattle.attempts.specs.History.{LentEvent, seqOf}
 use Rattle.attempts.specs.Handed.{Handed, handedIn, AllInPlace}
 use Rattle.attempts.proofs.Handing.{seqs-differ, frames-are-tries}
-use Rattle.carrying.specs.Carrying.{carry}
+use Rattle.carrying.specs.Carrying.{carry, textsOf}
 use Rattle.machine.specs.Device.{storeOf}
 use Rattle.tape.specs.Noting.{listing}
 use Rattle.recorder.specs.Recording.{recording, toldIn}
@@ -76,12 +76,19 @@ pub different-lists-differ : (cs ds : List Sent) → delivery cs ≡ true → de
 different-lists-differ = same-bytes-same-list
 
 -- the running code: whatever buffers are lent to `device::hear`, and in whatever parts the bytes are heard, as `printer` hears them: the books behind the
--- calls are those of the list, and all that was given back is what these theorems speak of
-pub the-calls-carry-out-the-list : (f g : Machines) → Fresh f → (cs : List Sent) → delivery cs ≡ true → (gives : List ℕ) → HeardThrough f (allArriving cs) gives g
-    → (storeOf (g .device) ≡ carryAll carry (freshStore (f .device .sheet)) (commands cs)) × (gives ≡ recording (f .device .sheet) (allArriving cs) .gives)
-the-calls-carry-out-the-list f g fresh cs e gives h =
-    let same = the-calls-are-the-recording f g fresh (allArriving cs) gives h in
-    (same .1 ∙ carries-out-the-list (f .device .sheet) cs e .1, same .0)
+-- calls are those of the list, all that was given back is what these theorems speak of, and the texts that were shown are the list's
+pub the-calls-carry-out-the-list : (f g : Machines) → Fresh f → (cs : List Sent) → delivery cs ≡ true → (gives : List ℕ) (texts : List (List ℕ)) → HeardThrough f (allArriving cs) gives texts g
+    → (storeOf (g .device) ≡ carryAll carry (freshStore (f .device .sheet)) (commands cs)) × ((gives ≡ recording (f .device .sheet) (allArriving cs) .gives)
+    × (texts ≡ textsOf (commands cs)))
+the-calls-carry-out-the-list f g fresh cs e gives texts h =
+    let same = the-calls-are-the-recording f g fresh (allArriving cs) gives texts h in
+    let done = carries-out-the-list (f .device .sheet) cs e in
+    (same .1 .0 ∙ done .1, (same .0, same .1 .1 ∙ ap textsOf (done .0)))
+
+-- PROTOCOL 5.17: and so the display shows the texts of that very list, each once and in order, and nothing else: no try that is damaged, cut short or repeated
+-- shows any
+pub shows-the-list-s-texts : (store : Store) (cs : List Sent) → delivery cs ≡ true → textsOf (session carry (switchedOn store) (allArriving cs) .carried) ≡ textsOf (commands cs)
+shows-the-list-s-texts store cs e = ap textsOf (carries-out-that-very-list carry cs e store .0)
 
 -- and `recorder::hear_all` promises `toldIn` of the recording, so that the list it lists and the books it hands back are these
 pub the-code-tells-the-list : (sheet : List Line) (cs : List Sent) → delivery cs ≡ true → (out orders : List ℕ)

@@ -1,8 +1,9 @@
 -- Demand 1 at the device: a row of the table for every byte, and no other reply by the table. `tableTurn` is what the rows say, as a function; the device's own
 -- turn is the same.
-use mathlib.Core.Path.{_≡_, refl, sym, ap, _∙_}
-use mathlib.Core.Bool.{Bool, true, false, cond}
-use mathlib.Core.List.{[], _∷_, _++_}
+use mathlib.Core.Path.{_≡_, refl, sym, ap, _∙_, subst}
+use mathlib.Core.Bool.{Bool, true, false, cond, false≢true}
+use mathlib.Core.List.{List, [], _∷_, _++_, append-nil}
+use mathlib.Core.Logic.{_⊎_, inl, inr}
 use Prim.Native.Nat.{ℕ}
 use Rattle.wire.specs.Frame.{Message}
 use Rattle.wire.specs.declared.Way.the-variants.{ToDevice}
@@ -10,17 +11,20 @@ use Rattle.reader.specs.Reading.{Place, Event, nothing, brokenFrame, heard, rea
 use Rattle.kinds.specs.declared.Command as kinds
 use Rattle.kinds.specs.declared.Parsed.{Parsed}
 use Rattle.kinds.specs.declared.Parsed.the-variants.{Read, Syntax, Unknown}
+use Rattle.display.specs.Display.{shownBy}
+use Rattle.kinds.specs.declared.Command.the-variants.{ShowText}
 use Rattle.command.specs.Commands.{parsedOf}
+use Rattle.command.proofs.Marks.{shown-or-not}
 use Rattle.sheet.specs.Searches.{placeOf, matchOf}
 use Rattle.deeds.specs.Deeds.{refusedWith, doneWith}
 use Rattle.deeds.specs.declared.Deed.{Deed}
 use Rattle.line.specs.Turns.{was, State, Carried, Turn, repeats, lastAnswer, onEvent, turn}
-use Rattle.carrying.specs.Carrying.{searchIn, deedFor, carriedAs, carry}
+use Rattle.carrying.specs.Carrying.{searchIn, deedFor, carriedAs, carry, textsOf}
 use Rattle.store.specs.Store.{Store}
 use Rattle.store.specs.Commands.{matchFor, ruleFor}
 use Rattle.rules.specs.Views.{viewOf}
 use Rattle.machine.specs.Device.{Lent, enough, lentTurn}
-use Rattle.promises.specs.AtDevice.{FromDevice, reads, three, four, NewFrame, NewCommand, ByDevice, row-0-taken, row-0-done, row-1, row-2, row-3, row-4, row-5, row-6, row-7}
+use Rattle.promises.specs.AtDevice.{FromDevice, shows, reads, three, four, NewFrame, NewCommand, ByDevice, row-0-taken, row-0-done, row-1, row-2, row-3, row-4, row-5, row-6, row-7}
 use Rattle.promises.specs.Ends.{ofDevice}
 use Rattle.promises.proofs.Verdicts.{Right, syntax, no-kind, is-read, parsed-right}
 
@@ -42,6 +46,36 @@ abbrev pub tableCarry : Store → Message → Carried Store
 tableCarry s m =
     let p = parsedOf (m .code) (m .content) in
     carriedAs s (m .seq) (m .code) (tablePlace s p) (tableDeed s p)
+
+-- what a command shows, by how it is read: nothing where it is refused
+abbrev isRead : Parsed → Bool
+isRead (Read c) = true
+isRead Syntax = false
+isRead Unknown = false
+
+not-syntax : Syntax ≡ Read ShowText → ⊥
+not-syntax e = false≢true (ap isRead e)
+
+not-unknown : Unknown ≡ Read ShowText → ⊥
+not-unknown e = false≢true (ap isRead e)
+
+abbrev commandIn : Parsed → kinds.Command
+commandIn (Read c) = c
+commandIn Syntax = ShowText
+commandIn Unknown = ShowText
+
+none-shown : (m : Message) (p : Parsed) → parsedOf (m .code) (m .content) ≡ p → (p ≡ Read ShowText → ⊥) → textsOf (m ∷ []) ≡ []
+none-shown m p e other = append-nil (shownBy (m .code) (m .content)) ∙ go (shown-or-not (m .code) (m .content))
+  where
+    go : (shownBy (m .code) (m .content) ≡ []) ⊎ (parsedOf (m .code) (m .content) ≡ Read ShowText) → shownBy (m .code) (m .content) ≡ []
+    go (inl f) = f
+    go (inr f) = absurd (other (sym e ∙ f))
+
+not-three : (s : Store) (c : kinds.Command) → three s c ≡ true → Read c ≡ Read ShowText → ⊥
+not-three s c e f = false≢true (sym (ap (λ p. three s (commandIn p)) f) ∙ e)
+
+not-four : (s : Store) (c : kinds.Command) → four s c ≡ true → Read c ≡ Read ShowText → ⊥
+not-four s c e f = false≢true (sym (ap (λ p. four s (commandIn p)) f) ∙ e)
 
 module _ (s : State Store) where
   -- turns, with all that decides them as arguments
@@ -81,6 +115,10 @@ module _ (s : State Store) where
     abbrev atKind : Message → Parsed → FromDevice
     atKind m p = ofDevice lent (order next m p (tableDeed (s .store) p))
 
+    -- a turn with the texts that it shows
+    abbrev showing : Turn Store → List (List ℕ) → FromDevice
+    showing t texts = shows (t .number) (t .gives) texts lent (t .state)
+
     long : enough lent ≡ true → (e : Event) → reads s byte .event ≡ e → atLength (enough lent) ≡ atEvent e
     long room e f = ap atLength room ∙ ap atEvent f
 
@@ -96,11 +134,14 @@ module _ (s : State Store) where
 
     pub only-row : (r : FromDevice) → ByDevice s lent byte r → r ≡ ofDevice lent (tableTurn lent byte)
     only-row r (row-0-taken room e) = sym (long room nothing e)
-    only-row r (row-0-done m c n e3 e4) = sym (commanded m c n false false e3 e4)
-    only-row r (row-1 m n e) = sym (framed m n Syntax e)
-    only-row r (row-2 m n e) = sym (framed m n Unknown e)
-    only-row r (row-3 m c n e3) = sym (commanded m c n true (four (s .store) c) e3 refl)
-    only-row r (row-4 m c n e3 e4) = sym (commanded m c n false true e3 e4)
+    only-row r (row-0-done m c n e3 e4) =
+        sym (commanded m c n false false e3 e4 ∙ ap (showing (order next m (Read c) (reasoned c false false))) (append-nil (shownBy (m .code) (m .content))))
+    only-row r (row-1 m n e) = sym (framed m n Syntax e ∙ ap (showing (order next m Syntax (tableDeed (s .store) Syntax))) (none-shown m Syntax e not-syntax))
+    only-row r (row-2 m n e) = sym (framed m n Unknown e ∙ ap (showing (order next m Unknown (tableDeed (s .store) Unknown))) (none-shown m Unknown e not-unknown))
+    only-row r (row-3 m c n e3) =
+        sym (commanded m c n true (four (s .store) c) e3 refl ∙ ap (showing (order next m (Read c) (reasoned c true (four (s .store) c)))) (none-shown m (Read c) (n .kind) (not-three (s .store) c e3)))
+    only-row r (row-4 m c n e3 e4) =
+        sym (commanded m c n false true e3 e4 ∙ ap (showing (order next m (Read c) (reasoned c false true))) (none-shown m (Read c) (n .kind) (not-four (s .store) c e4)))
     only-row r (row-5 room e) = sym (long room brokenFrame e)
     only-row r (row-6 m room e f) = sym (long room (heard m) e ∙ ap (atRepeat m) f)
     only-row r (row-7 short) = sym (ap atLength short)
@@ -108,14 +149,19 @@ module _ (s : State Store) where
     -- and every byte has its row
     by-reasons : (m : Message) (c : kinds.Command) → NewCommand s lent byte m c → (for3 for4 : Bool) → three (s .store) c ≡ for3 → four (s .store) c ≡ for4
         → ByDevice s lent byte (ofDevice lent (order next m (Read c) (reasoned c for3 for4)))
-    by-reasons m c n true for4 e3 e4 = row-3 m c n e3
-    by-reasons m c n false true e3 e4 = row-4 m c n e3 e4
-    by-reasons m c n false false e3 e4 = row-0-done m c n e3 e4
+    by-reasons m c n true for4 e3 e4 =
+        subst (λ z. ByDevice s lent byte (showing (order next m (Read c) (reasoned c true for4)) z)) (sym (none-shown m (Read c) (n .kind) (not-three (s .store) c e3))) (row-3 m c n e3)
+    by-reasons m c n false true e3 e4 =
+        subst (λ z. ByDevice s lent byte (showing (order next m (Read c) (reasoned c false true)) z)) (sym (none-shown m (Read c) (n .kind) (not-four (s .store) c e4))) (row-4 m c n e3 e4)
+    by-reasons m c n false false e3 e4 =
+        subst (λ z. ByDevice s lent byte (showing (order next m (Read c) (reasoned c false false)) z)) (sym (append-nil (shownBy (m .code) (m .content)))) (row-0-done m c n e3 e4)
 
     by-kind : (m : Message) → NewFrame s lent byte m → (p : Parsed) → parsedOf (m .code) (m .content) ≡ p
         → ByDevice s lent byte (ofDevice lent (order next m p (tableDeed (s .store) p)))
-    by-kind m n Syntax e = row-1 m n e
-    by-kind m n Unknown e = row-2 m n e
+    by-kind m n Syntax e =
+        subst (λ z. ByDevice s lent byte (showing (order next m Syntax (tableDeed (s .store) Syntax)) z)) (sym (none-shown m Syntax e not-syntax)) (row-1 m n e)
+    by-kind m n Unknown e =
+        subst (λ z. ByDevice s lent byte (showing (order next m Unknown (tableDeed (s .store) Unknown)) z)) (sym (none-shown m Unknown e not-unknown)) (row-2 m n e)
     by-kind m n (Read c) e = by-reasons m c (record { frame = n; kind = e }) (three (s .store) c) (four (s .store) c) refl refl
 
     by-event : enough lent ≡ true → (e : Event) → reads s byte .event ≡ e → ByDevice s lent byte (ofDevice lent (onEvent tableCarry s next e))

@@ -18,7 +18,7 @@ use Rattle.promises.specs.Ends.{outcomesOf}
 -- bytes to the device, with 217 and 512 lines lent; a command to it; bytes of an answer to the till end, with 210 lent
 abbrev heard : List ℕ → List Comes
 heard [] = []
-heard (b ∷ bs) = atDevice (record { buffer = replicate 217 0; lines = 512 }) b ∷ heard bs
+heard (b ∷ bs) = atDevice (record { buffer = replicate 217 0; lines = 512; display = replicate 40 0 }) b ∷ heard bs
 
 abbrev asks : (seq code : ℕ) → List ℕ → List Comes
 asks seq code content = heard (frame ToDevice (commandOf seq code content))
@@ -43,7 +43,7 @@ words (fromTill r ∷ rs) = r .word ∷ words rs
 
 -- 74 with data is syntax, and then a repeat; 75 is unknown; 51 needs an open receipt, which 48 opens; `Tab A99999999*2` passes 999999.99
 pub every-row-of-the-device-is-met : numbers (outcomesOf (freshBench (replicate 512 blank)) (
-    (atDevice (record { buffer = []; lines = 512 }) 0x01 ∷ heard (0x01 ∷ 0x02 ∷ []))
+    (atDevice (record { buffer = []; lines = 512; display = replicate 40 0 }) 0x01 ∷ heard (0x01 ∷ 0x02 ∷ []))
     ++ asks 0x20 74 (0x30 ∷ []) ++ asks 0x20 74 (0x30 ∷ []) ++ asks 0x21 75 [] ++ asks 0x22 51 (0x30 ∷ 0x30 ∷ [])
     ++ asks 0x23 48 (0x31 ∷ 0x2C ∷ 0x30 ∷ 0x30 ∷ 0x30 ∷ 0x30 ∷ 0x2C ∷ 0x31 ∷ [])
     ++ asks 0x24 49 (0x09 ∷ 0x41 ∷ 0x39 ∷ 0x39 ∷ 0x39 ∷ 0x39 ∷ 0x39 ∷ 0x39 ∷ 0x39 ∷ 0x39 ∷ 0x2A ∷ 0x32 ∷ [])))

@@ -23,7 +23,7 @@ fresh = freshDevice noLines
 
 -- a command, with a buffer of this length lent for each of its bytes
 abbrev sent : ℕ → ℕ → ℕ → List ℕ → List LentByte
-sent room seq code content = map (λ b. record { lent = record { buffer = replicate room 0; lines = 512 }; byte = b }) (frame ToDevice (commandOf seq code content))
+sent room seq code content = map (λ b. record { lent = record { buffer = replicate room 0; lines = 512; display = replicate 40 0 }; byte = b }) (frame ToDevice (commandOf seq code content))
 
 -- 49 `Tab B12.67`
 abbrev sale : ℕ → List LentByte

@@ -3,19 +3,21 @@ use mathlib.Core.Path.{_≡_, refl, sym, ap, _∙_}
 use mathlib.Core.Bool.{Bool, true, false, cond}
 use mathlib.Core.List.{List, [], _++_, append-assoc}
 use Prim.Native.Nat.{ℕ, _≤_}
-use lib.Dec.{leb}
 use lib.ListN.{length, take, drop}
-use borrow.Author.Tests.{leb-true}
-use Rattle.basics.proofs.Tests.{both}
+use native.Mathlib.Omega.{arith}
+use Rattle.display.specs.Display.{displayOf, textsIn}
 use Rattle.wire.specs.Frame.{Message}
 use Rattle.line.specs.Turns.{State, Session, session, switchedOn}
-use Rattle.line.specs.declared.Call.the-variants.{Quiet}
+use Rattle.line.specs.declared.Call.{Call}
+use Rattle.line.specs.declared.Call.the-variants.{Quiet, Nak, Again, Order}
 use Rattle.delivery.proofs.Sessions.{session-append}
-use Rattle.carrying.specs.Carrying.{carry}
+use Rattle.carrying.specs.Carrying.{carry, textsOf}
+use Rattle.carrying.proofs.Texts.{texts-append, texts-stand}
 use Rattle.store.specs.Store.{Store, freshStore}
 use Rattle.machine.specs.Device.{Lent, enough, storeOf, stateOf, notTaken}
 use Rattle.machine.specs.Hearing.{PartHeard, hearing, carriedBy}
 use Rattle.recorder.specs.Recording.{recording}
+use Rattle.machine.proofs.Room.{long}
 use Rattle.machine.proofs.Parts.{behind, part-is}
 use Rattle.promises.specs.Coded.{Machines, Fresh, benchOf, hear, partAfter, handedOn, HeardThrough, all-taken, one-call}
 use Rattle.promises.proofs.CodedDevice.{DeviceOk, device-called}
@@ -44,50 +46,71 @@ more-behind s h gives carried part left rest e =
 -- what a call gives back, and what it leaves to the rest
 record Called (f : Machines) (part : List ℕ) (p : PartHeard) : Type 0 where
   carried : List Message
+  texts-are : textsIn (p .after .shows) (p .after .lent .display) ≡ textsOf carried
   goes-on : session carry (stateIn f) part
       ≡ behind (take (p .after .count) (p .after .lent .buffer)) carried (session carry (stateOf (p .after .machine)) (drop (p .taken) part))
+
+-- a call carries out one command at most
+one-carried : (call : Call) (frame : List ℕ) → length (carriedBy call frame) ≤ 1
+one-carried Quiet frame = omega arith
+one-carried Nak frame = omega arith
+one-carried Again frame = omega arith
+one-carried (Order seq code n) frame = omega arith
 
 module _ (f : Machines) (ok : DeviceOk (f .device)) (lent : Lent) (part : List ℕ) where
   called : Called f part (partAfter f lent part)
   called = go (enough lent) refl (device-called (benchOf f .till) (f .device) ok lent part .few)
     where
       either : Bool → PartHeard
-      either long = cond long (hearing (f .device) lent part) (record { after = notTaken (f .device) lent; call = Quiet; taken = 0 })
+      either all = cond all (hearing (f .device) lent part) (record { after = notTaken (f .device) lent; call = Quiet; taken = 0 })
 
-      go : (long : Bool) → enough lent ≡ long → either long .after .count ≤ 217 → Called f part (either long)
-      go false e few = record { carried = []; goes-on = refl }
+      go : (all : Bool) → enough lent ≡ all → either all .after .count ≤ 217 → Called f part (either all)
+      go false e few = record { carried = []; texts-are = refl; goes-on = refl }
       go true e few =
-          let p = part-is part (f .device) lent (ok .frames) (ok .lasts) (leb-true 217 (length (lent .buffer)) (both (leb 217 (length (lent .buffer))) (leb 512 (lent .lines)) e .0)) (ok .short) few in
+          let p = part-is part (f .device) lent (ok .frames) (ok .lasts) (long lent e .room) (ok .short) few in
           let h : PartHeard = hearing (f .device) lent part in
           let carried = carriedBy (h .call) (h .after .machine .frame) in
           record {
             carried = carried;
+            texts-are =
+                ap (λ z. textsIn z (h .after .lent .display)) (p .shows-is)
+                ∙ ap (textsIn (displayOf (textsOf carried))) (p .display-is)
+                ∙ texts-stand carried (one-carried (h .call) (h .after .machine .frame)) (lent .display) (long lent e .display);
             goes-on = p .goes-on ∙ ap (λ z. behind z carried (session carry (stateOf (h .after .machine)) (drop (h .taken) part))) (sym (p .given-is));
           }
 
 -- all calls
-record Through (f g : Machines) (bytes gives : List ℕ) : Type 0 where
+record Through (f g : Machines) (bytes gives : List ℕ) (texts : List (List ℕ)) : Type 0 where
   carried : List Message
+  texts-are : texts ≡ textsOf carried
   is-session : session carry (stateIn f) bytes ≡ record { gives = gives; carried = carried; state = stateIn g }
 
-through : {f g : Machines} {bytes gives : List ℕ} → DeviceOk (f .device) → HeardThrough f bytes gives g → Through f g bytes gives
-through ok all-taken = record { carried = []; is-session = refl }
-through {f} {g} ok (one-call {gives = gives} lent part rest more) =
+through : {f g : Machines} {bytes gives : List ℕ} {texts : List (List ℕ)} → DeviceOk (f .device) → HeardThrough f bytes gives texts g → Through f g bytes gives texts
+through ok all-taken = record { carried = []; texts-are = refl; is-session = refl }
+through {f} {g} ok (one-call {gives = gives} {texts = texts} lent part rest more) =
     let p : PartHeard = partAfter f lent part in
     let one = called f ok lent part in
     let later = through {f = handedOn f (hear lent part)} {g = g} (device-called (benchOf f .till) (f .device) ok lent part .ok) more in
     record {
       carried = one .carried ++ later .carried;
+      texts-are =
+          ap (λ z. z ++ texts) (one .texts-are) ∙ ap (λ z. textsOf (one .carried) ++ z) (later .texts-are)
+          ∙ sym (texts-append (one .carried) (later .carried));
       is-session =
           more-behind (stateIn f) (stateIn (handedOn f (hear lent part))) (take (p .after .count) (p .after .lent .buffer)) (one .carried) part (drop (p .taken) part) rest (one .goes-on)
           ∙ ap (behind (take (p .after .count) (p .after .lent .buffer)) (one .carried)) (later .is-session);
     }
 
--- the theorem: whatever buffers are lent, and however the bytes come in parts, all that fresh fields give back and the books behind it are the recording's
-pub the-calls-are-the-recording : (f g : Machines) → Fresh f → (bytes gives : List ℕ) → HeardThrough f bytes gives g
-    → (gives ≡ recording (f .device .sheet) bytes .gives) × (storeOf (g .device) ≡ recording (f .device .sheet) bytes .state .store)
-the-calls-are-the-recording f g fresh bytes gives h =
+-- the theorem: whatever buffers are lent, and however the bytes come in parts, all that fresh fields give back, the books behind it and the texts that are
+-- shown are the recording's
+pub the-calls-are-the-recording : (f g : Machines) → Fresh f → (bytes gives : List ℕ) (texts : List (List ℕ)) → HeardThrough f bytes gives texts g
+    → (gives ≡ recording (f .device .sheet) bytes .gives) × ((storeOf (g .device) ≡ recording (f .device .sheet) bytes .state .store)
+    × (texts ≡ textsOf (recording (f .device .sheet) bytes .carried)))
+the-calls-are-the-recording f g fresh bytes gives texts h =
     let t = through (fresh-device f fresh) h in
     let says-fresh : stateIn f ≡ switchedOn (freshStore (f .device .sheet)) = rw (fresh .device) in
     let same : recording (f .device .sheet) bytes ≡ record { gives = gives; carried = t .carried; state = stateIn g } = sym (ap (λ s. session carry s bytes) says-fresh) ∙ t .is-session in
-    (sym (ap (λ (s : Session Store). s .gives) same), sym (ap (λ (s : Session Store). s .state .store) same))
+    (
+      sym (ap (λ (s : Session Store). s .gives) same),
+      (sym (ap (λ (s : Session Store). s .state .store) same), t .texts-are ∙ sym (ap (λ (s : Session Store). textsOf (s .carried)) same)),
+    )

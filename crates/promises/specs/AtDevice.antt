@@ -8,6 +8,7 @@ use lib.Seq.{sets}
 use Rattle.wire.specs.Frame.{Message, answerOf, frame}
 use Rattle.wire.specs.declared.Way.the-variants.{ToDevice, ToTill}
 use Rattle.reader.specs.Reading.{nothing, brokenFrame, heard, Read, read}
+use Rattle.display.specs.Display.{shownBy, displayed}
 use Rattle.books.specs.declared.Books.{Books}
 use Rattle.answers.specs.Contents.{contentOf}
 use Rattle.answers.specs.Status.{receipts, memories}
@@ -21,25 +22,31 @@ use Rattle.store.specs.Store.{Store}
 use Rattle.store.specs.Commands.{placeFor, ruleFor}
 use Rattle.machine.specs.Device.{Lent, enough}
 
--- PROTOCOL 1.1, 2.1: what comes from the device for one byte: its reply number, how many bytes are given back and which, what was lent and the device
--- afterwards
+-- PROTOCOL 1.1, 2.1: what comes from the device for one byte: its reply number, how many bytes are given back and which, the texts for the display (5.17),
+-- none or one, what was lent and the device afterwards
 pub record FromDevice : Type 0 where
   pub number : ℕ
   pub count : ℕ
   pub bytes : List ℕ
+  pub shows : List (List ℕ)
   pub lent : Lent
   pub device : State Store
 
--- PROTOCOL 2.5: what is given back stands at the front of the lent buffer, and the bytes behind it stay as they were
-abbrev pub tells : ℕ → List ℕ → Lent → State Store → FromDevice
-tells number bytes lent after =
+-- PROTOCOL 2.5: what is given back stands at the front of the lent buffer, a text at the front of the display's, and the bytes behind them stay as they were
+abbrev pub shows : ℕ → List ℕ → (texts : List (List ℕ)) → Lent → State Store → FromDevice
+shows number bytes texts lent after =
     record {
       number = number;
       count = length bytes;
       bytes = bytes;
-      lent = record { buffer = sets (lent .buffer) 0 bytes; lines = lent .lines };
+      shows = texts;
+      lent = record { buffer = sets (lent .buffer) 0 bytes; lines = lent .lines; display = displayed (lent .display) texts };
       device = after;
     }
+
+-- PROTOCOL 5.17: no text: every byte of the display's buffer stays
+abbrev pub tells : ℕ → List ℕ → Lent → State Store → FromDevice
+tells number bytes lent after = shows number bytes [] lent after
 
 -- PROTOCOL 1.7: what the byte is to the frame that is being read, and where reading stands behind it
 abbrev pub reads : State Store → ℕ → Read
@@ -59,7 +66,7 @@ pub record NewFrame (s : State Store) (lent : Lent) (byte : ℕ) (m : Message) :
   pub whole : reads s byte .event ≡ heard m
   pub new : repeats (s .before) m ≡ false
 
--- PROTOCOL 5.1: and it is read as one of the fourteen kinds
+-- PROTOCOL 5.1: and it is read as one of the fifteen kinds
 pub record NewCommand (s : State Store) (lent : Lent) (byte : ℕ) (m : Message) (c : kinds.Command) : Type 0 where
   pub frame : NewFrame s lent byte m
   pub kind : parsedOf (m .code) (m .content) ≡ parsed.Read c
@@ -92,9 +99,9 @@ leavesOf s c =
 pub data ByDevice (s : State Store) (lent : Lent) (byte : ℕ) : FromDevice → Type 0 where
   -- 0, a byte taken: nothing is given back; all but where reading stands is as it was
   row-0-taken : enough lent ≡ true → reads s byte .event ≡ nothing → ByDevice s lent byte (tells 0 [] lent (moved s byte))
-  -- 0, done: no reason for 3 and none for 4; an answer, with verdict 80 80 (3.2); what changes is the command's effect
+  -- 0, done: no reason for 3 and none for 4; an answer, with verdict 80 80 (3.2); what changes is the command's effect, and 100 shows its text (5.17)
   row-0-done : (m : Message) (c : kinds.Command) → NewCommand s lent byte m c → three (s .store) c ≡ false → four (s .store) c ≡ false
-      → ByDevice s lent byte (tells 0 (doneWith (s .store) m c) lent (remembers s byte m (doneWith (s .store) m c) (leavesOf (s .store) c)))
+      → ByDevice s lent byte (shows 0 (doneWith (s .store) m c) (shownBy (m .code) (m .content)) lent (remembers s byte m (doneWith (s .store) m c) (leavesOf (s .store) c)))
   -- 1, syntax: an answer with no data and verdict A1 80 (3.2); the books stay, counters and closings too (2.3)
   row-1 : (m : Message) → NewFrame s lent byte m → parsedOf (m .code) (m .content) ≡ parsed.Syntax
       → ByDevice s lent byte (tells 1 (answerWith m [] 0xA1 0x80 (s .store .books)) lent (remembers s byte m (answerWith m [] 0xA1 0x80 (s .store .books)) (s .store)))
@@ -112,5 +119,5 @@ pub data ByDevice (s : State Store) (lent : Lent) (byte : ℕ) : FromDevice → 
   -- 6, repeat: the last answer (1.10); all but where reading stands is as it was
   row-6 : (m : Message) → enough lent ≡ true → reads s byte .event ≡ heard m → repeats (s .before) m ≡ true
       → ByDevice s lent byte (tells 6 (lastAnswer (s .before)) lent (moved s byte))
-  -- 7, less than 217 bytes or 512 lines lent: nothing is given back; the byte is not taken, and everything stays (2.4)
+  -- 7, less than 217 bytes, 512 lines or 40 bytes for the display lent: nothing is given back; the byte is not taken, and everything stays (2.4)
   row-7 : enough lent ≡ false → ByDevice s lent byte (tells 7 [] lent s)

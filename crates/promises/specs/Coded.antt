@@ -7,6 +7,7 @@ use mathlib.Core.List.{List, [], _∷_, _++_}
 use lib.ListN.{length, take, drop}
 use lib.Seq.{sets}
 use Rattle.reader.specs.Reading.{Event, nothing, brokenFrame, heard}
+use Rattle.display.specs.Display.{displayOf, textsIn}
 use Rattle.machine.specs.Device as device
 use Rattle.machine.specs.Hearing.{PartHeard, afterPart}
 use Rattle.till.specs.Turns as till
@@ -72,11 +73,14 @@ handedOn f (happens buffer h) =
       answer = answerAfter f buffer h;
     }
 
--- the result of a device's call is a reply: number, count, the bytes given back, every byte of what was lent, and the state that its fields and arrays say
+-- the result of a device's call is a reply: number, count, the bytes given back, what the display is told and the text in its buffer, every byte of what was
+-- lent, and the state that its fields and arrays say
 pub record DeviceResult (a : device.After) (r : FromDevice) : Type 0 where
   pub number : a .number ≡ r .number
   pub count : a .count ≡ r .count
   pub bytes : take (a .count) (a .lent .buffer) ≡ r .bytes
+  pub told : a .shows ≡ displayOf (r .shows)
+  pub texts : textsIn (a .shows) (a .lent .display) ≡ r .shows
   pub lent : a .lent ≡ r .lent
   pub state : device.stateOf (a .machine) ≡ r .device
 
@@ -129,9 +133,10 @@ pub data CodeByTheTable : Bench → Machines → List CodeCall → Type 0 where
       → CodeByTheTable (benchAfter s (fromTill r)) (handedOn f (happens buffer h)) calls → CodeByTheTable s f (happens buffer h ∷ calls)
 
 -- calls of `device::hear`, with anything lent each time, until every byte of the line is taken: each hears a part of what is not taken yet, as `printer`
--- does with all that it reads. What they give back, one after the other, and the fields and arrays behind them
-pub data HeardThrough : Machines → (bytes gives : List ℕ) → Machines → Type 0 where
-  all-taken : {f : Machines} → HeardThrough f [] [] f
-  one-call : {f g : Machines} {gives : List ℕ} (lent : device.Lent) (part rest : List ℕ)
-      → HeardThrough (handedOn f (hear lent part)) (drop (partAfter f lent part .taken) part ++ rest) gives g
-      → HeardThrough f (part ++ rest) (take (partAfter f lent part .after .count) (partAfter f lent part .after .lent .buffer) ++ gives) g
+-- does with all that it reads. What they give back, one after the other, the texts that they show, and the fields and arrays behind them
+pub data HeardThrough : Machines → (bytes gives : List ℕ) → (texts : List (List ℕ)) → Machines → Type 0 where
+  all-taken : {f : Machines} → HeardThrough f [] [] [] f
+  one-call : {f g : Machines} {gives : List ℕ} {texts : List (List ℕ)} (lent : device.Lent) (part rest : List ℕ)
+      → HeardThrough (handedOn f (hear lent part)) (drop (partAfter f lent part .taken) part ++ rest) gives texts g
+      → HeardThrough f (part ++ rest) (take (partAfter f lent part .after .count) (partAfter f lent part .after .lent .buffer) ++ gives)
+      (textsIn (partAfter f lent part .after .shows) (partAfter f lent part .after .lent .display) ++ texts) g

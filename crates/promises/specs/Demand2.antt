@@ -20,9 +20,9 @@ pub record LentByte : Type 0 where
   pub lent : Lent
   pub byte : ℕ
 
--- PROTOCOL 1.1: a recording, with 217 bytes and 512 lines lent each time
+-- PROTOCOL 1.1: a recording, with 217 bytes, 512 lines and 40 bytes for the display lent each time
 abbrev pub alwaysLent : List ℕ → List LentByte
-alwaysLent = map (λ b. record { lent = record { buffer = replicate 217 0; lines = 512 }; byte = b })
+alwaysLent = map (λ b. record { lent = record { buffer = replicate 217 0; lines = 512; display = replicate 40 0 }; byte = b })
 
 abbrev pub turnBy : State Store → LentByte → Turn Store
 turnBy s a = lentTurn (a .lent) s (a .byte)

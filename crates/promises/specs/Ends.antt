@@ -10,12 +10,13 @@ use Rattle.machine.specs.Device.{Lent, lentTurn}
 use Rattle.till.specs.Turns as till
 use Rattle.till.specs.Words.{numberOf, countOf}
 use Rattle.till.specs.declared.Word.the-variants.{Unfinished}
-use Rattle.promises.specs.AtDevice.{FromDevice, tells}
+use Rattle.carrying.specs.Carrying.{textsOf}
+use Rattle.promises.specs.AtDevice.{FromDevice, shows}
 use Rattle.promises.specs.AtTill.{FromTill, replies, fails, noneWaits}
 use Rattle.promises.specs.Demand1.{Bench, Comes, atDevice, atTill, Outcome, fromDevice, fromTill, benchAfter}
 
 abbrev pub ofDevice : Lent → line.Turn Store → FromDevice
-ofDevice lent t = tells (t .number) (t .gives) lent (t .state)
+ofDevice lent t = shows (t .number) (t .gives) (textsOf (t .carried)) lent (t .state)
 
 abbrev pub ofTill : List ℕ → till.Turn → FromTill
 ofTill buffer t = replies (numberOf (t .word)) (t .word) (countOf (t .word)) (t .puts) buffer (t .state)

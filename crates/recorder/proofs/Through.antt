@@ -9,7 +9,6 @@ use lib.Dec.{leb, ltb}
 use lib.ListN.{length, take, drop, replicate, length-drop, length-replicate, drop-of-length-le}
 use lib.Seq.{sets, length-sets, drop-drop}
 use borrow.Author.Tests.{ltb-true, ltb-false, le-leb, lt-ltb}
-use Rattle.basics.proofs.Tests.{and-true}
 use Rattle.wire.specs.declared.Way.the-variants.{ToDevice}
 use Rattle.reader.proofs.Holding.{Underway}
 use Rattle.line.specs.Turns.{Session, session}
@@ -21,6 +20,8 @@ use Rattle.sheet.specs.declared.Line.{Line}
 use Rattle.kept.specs.declared.Kept.{Kept}
 use Rattle.machine.specs.Device.{freshFields, enough, stateOf}
 use Rattle.machine.specs.Hearing.{PartHeard, hearing, afterPart, carriedBy}
+use Rattle.machine.specs.Beginning.{textsBy}
+use Rattle.machine.proofs.Room.{long-so, shown-length}
 use Rattle.machine.proofs.Parts.{behind, part-is, part-long}
 use Rattle.machine.proofs.Parts as parts
 use Rattle.machine.proofs.Taking.{part-within, part-some}
@@ -41,6 +42,7 @@ pub record Head (bytes : List ℕ) (target : Told) (s : Running) : Type 0 where
   pub lasts : length (s .last) ≡ 217
   pub room : 217 ≤ length (s .buffer)
   pub lines : 512 ≤ length (s .sheet)
+  pub display : 40 ≤ length (s .display)
   pub held : Underway ToDevice (stateOf (machineIn s) .place)
   pub eights : Eights (s .run .device .books)
   pub given-in : s .run .given ≤ length (s .out)
@@ -55,7 +57,7 @@ module _ (bytes : List ℕ) (target : Told) (s : Running) (h : Head bytes target
   p = afterPart (machineIn s) (lentIn s) rest
 
   long : enough (lentIn s) ≡ true
-  long = and-true (leb 217 (length (s .buffer))) (leb 512 (length (s .sheet))) (le-leb 217 (length (s .buffer)) (h .room)) (le-leb 512 (length (s .sheet)) (h .lines))
+  long = long-so (lentIn s) (record { room = h .room; lines = h .lines; display = h .display })
 
   is-heard : hearing (machineIn s) (lentIn s) rest ≡ p
   is-heard = part-long (machineIn s) (lentIn s) rest long
@@ -93,6 +95,7 @@ module _ (bytes : List ℕ) (target : Told) (s : Running) (h : Head bytes target
         lasts = part .lasts;
         room = omega (arith, part .room, h .room);
         lines = omega (arith, small .lines, h .lines);
+        display = omega (arith, shown-length (s .display) (textsBy (p .call) (p .after .machine .frame)), ap length (part .display-is), h .display);
         held = part .held;
         eights = small .eights;
         given-in = omega (arith, length-sets (s .out) (s .run .given) gives);
@@ -139,13 +142,13 @@ told-at-the-end bytes target s h =
     ∙ ap (λ z. record { recorded = record { books = f .run .device .books; given = f .run .given; listed = z }; out = f .out; orders = f .orders }) all-listed)
 
 -- a fresh device, with arrays and a sheet of these contents
-abbrev pub freshRun : (frame last buffer : List ℕ) → List Line → (bytes out orders : List ℕ) → Running
-freshRun frame last buffer sheet bytes out orders =
-    record { run = startOf freshFields (length bytes); frame = frame; last = last; buffer = buffer; sheet = sheet; out = out; orders = orders }
+abbrev pub freshRun : (frame last buffer display : List ℕ) → List Line → (bytes out orders : List ℕ) → Running
+freshRun frame last buffer display sheet bytes out orders =
+    record { run = startOf freshFields (length bytes); frame = frame; last = last; buffer = buffer; display = display; sheet = sheet; out = out; orders = orders }
 
-pub fresh-head : (frame last buffer : List ℕ) (sheet : List Line) (bytes out orders : List ℕ) → length frame ≡ 256 → length last ≡ 217 → 217 ≤ length buffer → 512 ≤ length sheet
-    → Head bytes (toldIn out orders (recording sheet bytes)) (freshRun frame last buffer sheet bytes out orders)
-fresh-head frame last buffer sheet bytes out orders frames lasts room lines =
+pub fresh-head : (frame last buffer display : List ℕ) (sheet : List Line) (bytes out orders : List ℕ) → length frame ≡ 256 → length last ≡ 217 → 217 ≤ length buffer → 40 ≤ length display → 512 ≤ length sheet
+    → Head bytes (toldIn out orders (recording sheet bytes)) (freshRun frame last buffer display sheet bytes out orders)
+fresh-head frame last buffer display sheet bytes out orders frames lasts room shown lines =
     record {
       within = omega arith;
       more = refl;
@@ -153,6 +156,7 @@ fresh-head frame last buffer sheet bytes out orders frames lasts room lines =
       lasts = lasts;
       room = room;
       lines = lines;
+      display = shown;
       held = tt;
       eights = record { day = refl; groups = refl };
       given-in = omega arith;
@@ -161,13 +165,13 @@ fresh-head frame last buffer sheet bytes out orders frames lasts room lines =
     }
 
 -- heard with the sheet by value
-pub all-told : (k : Kept) (frame last buffer bytes out orders : List ℕ) (r : Part) (frame' last' buffer' out' orders' : List ℕ) → k ≡ record { device = freshFields; sheet = replicate 512 blank }
-    → length frame ≡ 256 → length last ≡ 217 → 217 ≤ length buffer
-    → partLeft r frame' last' buffer' out' orders' ≡ partHeard k frame last buffer bytes out orders
+pub all-told : (k : Kept) (frame last buffer display bytes out orders : List ℕ) (r : Part) (frame' last' buffer' display' out' orders' : List ℕ) → k ≡ record { device = freshFields; sheet = replicate 512 blank }
+    → length frame ≡ 256 → length last ≡ 217 → 217 ≤ length buffer → 40 ≤ length display
+    → partLeft r frame' last' buffer' display' out' orders' ≡ partHeard k frame last buffer display bytes out orders
     → record { recorded = record { books = r .kept .device .books; given = r .given; listed = r .listed }; out = out'; orders = orders' } ≡ toldIn out orders (recording (replicate 512 blank) bytes)
-all-told k frame last buffer bytes out orders r frame' last' buffer' out' orders' ek frames lasts room e =
+all-told k frame last buffer display bytes out orders r frame' last' buffer' display' out' orders' ek frames lasts room shown e =
     let lines : length (replicate 512 blank) ≡ 512 = length-replicate {A = Line} 512 blank in
     ap (λ (z : PartLeft). record { recorded = record { books = z .part .kept .device .books; given = z .part .given; listed = z .part .listed }; out = z .out; orders = z .orders })
-    (e ∙ ap (λ (z : Kept). partHeard z frame last buffer bytes out orders) ek)
-    ∙ told-at-the-end bytes (toldIn out orders (recording (replicate 512 blank) bytes)) (freshRun frame last buffer (replicate 512 blank) bytes out orders)
-    (fresh-head frame last buffer (replicate 512 blank) bytes out orders frames lasts room (omega (arith, lines)))
+    (e ∙ ap (λ (z : Kept). partHeard z frame last buffer display bytes out orders) ek)
+    ∙ told-at-the-end bytes (toldIn out orders (recording (replicate 512 blank) bytes)) (freshRun frame last buffer display (replicate 512 blank) bytes out orders)
+    (fresh-head frame last buffer display (replicate 512 blank) bytes out orders frames lasts room shown (omega (arith, lines)))

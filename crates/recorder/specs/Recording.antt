@@ -1,4 +1,4 @@
--- PROTOCOL 1.1: a recording, all the bytes that a fresh device heard; it is always lent its 217 bytes, and the same sheet of 512 lines, whatever that held.
+-- PROTOCOL 1.1: a recording, all the bytes that a fresh device heard; it is always lent its 217 bytes, 40 for the display, and the same sheet of 512 lines, whatever these held.
 use Prim.Native.Nat.{ℕ, min}
 use mathlib.Core.List.{List}
 use lib.ListN.{length}

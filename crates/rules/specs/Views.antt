@@ -1,8 +1,8 @@
--- PROTOCOL 5.1: what each command is to the books, in the rule book's order: the one table over the fourteen kinds. A command that changes nothing in the
+-- PROTOCOL 5.1: what each command is to the books, in the rule book's order: the one table over the fifteen kinds. A command that changes nothing in the
 -- books `Asks`: all its rule says is what has to be open for it, and what its answer shows.
 use mathlib.Core.Bool.{true, false}
 use Rattle.kinds.specs.declared.Command.{Command}
-use Rattle.kinds.specs.declared.Command.the-variants.{OpenText, CloseText, PrintText, Open, Sell, Subtotal, Pay, Close, Cancel, Sums, Closing, Drawer, Status, Rates}
+use Rattle.kinds.specs.declared.Command.the-variants.{OpenText, CloseText, PrintText, Open, Sell, Subtotal, Pay, Close, Cancel, Sums, Closing, Drawer, Status, Rates, ShowText}
 use Rattle.kinds.specs.declared.Sale.{Sale}
 use Rattle.kinds.specs.declared.Service.the-variants.{Report, In, Out}
 use Rattle.books.specs.declared.Shown.the-variants as shown
@@ -37,6 +37,8 @@ viewOf (Drawer (Out n)) = Takes n
 -- PROTOCOL 5.15, 5.16: 74 and 97 are always permitted
 viewOf Status = Asks Always shown.Status
 viewOf Rates = Asks Always shown.Rates
+-- PROTOCOL 5.17: 100, whose text goes to the display; always permitted
+viewOf ShowText = Asks Always shown.Nothing
 
 -- what is asked of a line; of every other view it is `none`
 module _ {A : Type 0} (none : A) where

@@ -1,4 +1,4 @@
-// What each command is to the books (PROTOCOL 5.1): the one table over the fourteen kinds.
+// What each command is to the books (PROTOCOL 5.1): the one table over the fifteen kinds.
 use books::Shown;
 use kinds::Command;
 use kinds::Password;
@@ -66,6 +66,10 @@ pub fn view_of(command: Command) -> View
         Command::Rates => View::Asks {
             when: When::Always,
             shown: Shown::Rates,
+        },
+        Command::ShowText => View::Asks {
+            when: When::Always,
+            shown: Shown::Nothing,
         },
     }
 }

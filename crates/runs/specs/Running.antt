@@ -1,4 +1,4 @@
--- DECISIONS 32, 54: the bytes of a part heard call by call, each with the same arrays, buffer and sheet lent; what the calls give back and carry out is noted
+-- DECISIONS 32, 54: the bytes of a part heard call by call, each with the same arrays, buffers and sheet lent; what the calls give back and carry out is noted
 -- down.
 use Prim.Native.Nat.{ℕ, zero, suc, _-_}
 use mathlib.Core.Bool.{cond}
@@ -16,6 +16,7 @@ pub record Running : Type 0 where
   pub frame : List ℕ
   pub last : List ℕ
   pub buffer : List ℕ
+  pub display : List ℕ
   pub sheet : List Line
   pub out : List ℕ
   pub orders : List ℕ
@@ -24,18 +25,19 @@ abbrev pub machineIn : Running → Machine
 machineIn s = record { device = s .run .device; frame = s .frame; last = s .last; sheet = s .sheet }
 
 abbrev pub lentIn : Running → Lent
-lentIn s = record { buffer = s .buffer; lines = length (s .sheet) }
+lentIn s = record { buffer = s .buffer; lines = length (s .sheet); display = s .display }
 
 -- one call more
 abbrev pub behindCall : Running → (total : ℕ) → PartHeard → Running
 behindCall s total p =
     let a = p .after in
-    let n = notedDown (s .run) (record { given = record { device = a .machine .device; number = a .number; count = a .count }; call = p .call; taken = p .taken }) (a .machine .frame) (a .lent .buffer) total (s .out) (s .orders) in
+    let n = notedDown (s .run) (record { given = record { device = a .machine .device; number = a .number; count = a .count; shows = a .shows }; call = p .call; taken = p .taken }) (a .machine .frame) (a .lent .buffer) total (s .out) (s .orders) in
     record {
       run = n .run;
       frame = a .machine .frame;
       last = a .machine .last;
       buffer = a .lent .buffer;
+      display = a .lent .display;
       sheet = a .machine .sheet;
       out = n .out;
       orders = n .orders;

@@ -33,12 +33,13 @@ at-most : (lowest b : ℕ) → within lowest 0xFF b ≡ true → b ≤ 255
 at-most lowest b e = leb-true b 0xFF (both (leb lowest b) (leb b 0xFF) e .1)
 
 data-most : (b : ℕ) → mayStand Data b ≡ true → b ≤ 255
-data-most b = go (eqb b 0x09) refl (eqb b 0x0A) refl
+data-most b = go (eqb b 0x09) refl (eqb b 0x0A) refl (eqb b 0x10) refl
   where
-    go : (x : Bool) → eqb b 0x09 ≡ x → (y : Bool) → eqb b 0x0A ≡ y → x || y || within 0x20 0xFF b ≡ true → b ≤ 255
-    go true ex y ey e = omega (arith, eqb-true b 0x09 ex)
-    go false ex true ey e = omega (arith, eqb-true b 0x0A ey)
-    go false ex false ey e = at-most 0x20 b e
+    go : (x : Bool) → eqb b 0x09 ≡ x → (y : Bool) → eqb b 0x0A ≡ y → (z : Bool) → eqb b 0x10 ≡ z → x || y || z || within 0x20 0xFF b ≡ true → b ≤ 255
+    go true ex y ey z ez e = omega (arith, eqb-true b 0x09 ex)
+    go false ex true ey z ez e = omega (arith, eqb-true b 0x0A ey)
+    go false ex false ey true ez e = omega (arith, eqb-true b 0x10 ez)
+    go false ex false ey false ez e = at-most 0x20 b e
 
 total-most : (t : ℕ → Bool) → ((x : ℕ) → t x ≡ true → x ≤ 255) → (xs : List ℕ) → every t xs ≡ true → total xs ≤ 255 * length xs
 total-most t most [] e = omega arith

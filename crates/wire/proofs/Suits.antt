@@ -30,8 +30,8 @@ pub &&-false : (a : Bool) → a && false ≡ false
 pub within-byte : (lowest b : ℕ) → b < 256 → leb lowest b ≡ within lowest 0xFF b
 within-byte lowest b h = rw (le-leb b 0xFF (omega arith)) (sym (&&-true (leb lowest b)))
 
-pub data-byte : (b : ℕ) → b < 256 → (b ≡ 0x09 → ⊥) → (b ≡ 0x0A → ⊥) → leb 0x20 b ≡ mayStandInData b
-data-byte b h p q = rw (ne-eqb b 0x09 p, ne-eqb b 0x0A q) (within-byte 0x20 b h)
+pub data-byte : (b : ℕ) → b < 256 → (b ≡ 0x09 → ⊥) → (b ≡ 0x0A → ⊥) → (b ≡ 0x10 → ⊥) → leb 0x20 b ≡ mayStandInData b
+data-byte b h p q r = rw (ne-eqb b 0x09 p, ne-eqb b 0x0A q, ne-eqb b 0x10 r) (within-byte 0x20 b h)
 
 pub data-feed : (b : ℕ) → 0x09 ≤ b → b < 0x0B → true ≡ mayStandInData b
 data-feed b h g = go (decLt b 0x0A)

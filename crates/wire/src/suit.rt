@@ -10,12 +10,12 @@ ghost use Rattle.wire.specs.Bytes.{mayStand, mayStandInData, every};
 ghost use Rattle.wire.specs.Frame.{bcc};
 ghost use Rattle.wire.specs.Places.{front, ending, behindData, dataCount, is, none};
 
-// Tab, line feed, and 20h and above.
+// Tab, line feed, 10h, and 20h and above.
 fn may_stand_in_data(b: u8) -> bool
     ensures { λ r. ⌜ r ≡ mayStandInData b ⌝ }
 {
     match b {
-        0x09 | 0x0A | 0x20..=0xFF => true,
+        0x09 | 0x0A | 0x10 | 0x20..=0xFF => true,
         _ => false,
     }
 }

@@ -16,9 +16,7 @@ use Rattle.reasons.specs.declared.Reason.{Reason}
 use Rattle.refusals.specs.Refusals.{reasonOf}
 use Rattle.machine.specs.Device.{Lent, Machine, storeOf}
 use Rattle.machine.specs.Hearing.{PartHeard, afterPart, carriedBy}
-use Rattle.machine.specs.Beginning.{askedOf}
-use Rattle.machine.specs.declared.Asked.{Asked}
-use Rattle.machine.proofs.Beginning.{asked-is}
+use Rattle.machine.proofs.Beginning.{cut}
 use Rattle.witness.specs.Witness.{reasonBy, reasonAmong, witnessed}
 
 -- an order's data, read, what the sheet says to it, and the reason
@@ -27,8 +25,7 @@ module _ (s : Store) (call : Call) (frame : List ℕ) (seq code n k : ℕ) where
       → p ≡ parsedOf code (take (k + 3 - 3) (drop 3 frame)) → q ≡ searchIn (s .books) p → m ≡ matchOf (s .sheet) q → r ≡ reasonOf (s .books) m p
       → r ≡ reasonAmong s (carriedBy call frame)
   reason-is p q m r ec size ek ep eq em er =
-      let asked = asked-is (s .books) call frame seq code n k p q ec size ek ep eq in
-      let read : p ≡ parsedOf code (take n (drop 3 frame)) = ap (λ (z : Asked). z .parsed) (asked ∙ ap (λ z. askedOf (s .books) z frame) ec) in
+      let read : p ≡ parsedOf code (take n (drop 3 frame)) = ep ∙ ap (parsedOf code) (cut (s .books) call frame seq code n k ec size ek) in
       er ∙ ap (λ z. reasonOf (s .books) z p) (em ∙ ap (matchOf (s .sheet)) eq) ∙ ap (reasonBy s) read ∙ sym (ap (λ z. reasonAmong s (carriedBy z frame)) ec)
 
 -- the call and its reason

@@ -35,9 +35,9 @@ witnessed m lent bytes =
     record { heard = h; reason = reasonAmong (storeOf m) (carriedBy (h .call) (h .after .machine .frame)) }
 
 -- the same as the code has it
-abbrev pub seenOf : Seen → (frame last buffer : List ℕ) → Witnessed
-seenOf s frame last buffer =
+abbrev pub seenOf : Seen → (frame last buffer display : List ℕ) → Witnessed
+seenOf s frame last buffer display =
     record {
-      heard = nextOf (record { kept = s .kept; call = s .call; number = s .number; count = s .count; taken = s .taken }) frame last buffer;
+      heard = nextOf (record { kept = s .kept; call = s .call; number = s .number; count = s .count; shows = s .shows; taken = s .taken }) frame last buffer display;
       reason = s .reason;
     }

@@ -1,5 +1,6 @@
 // One call of the device, and why the command that it carried out was refused (DECISIONS 72).
 use books::Books;
+use display::Display;
 use kept::Kept;
 use line::Call;
 use line::MOST_HELD;
@@ -21,6 +22,7 @@ pub struct Seen {
     pub call: Call,
     pub number: u64,
     pub count: usize,
+    pub shows: Display,
     pub taken: usize,
     pub reason: Reason,
 }
@@ -31,15 +33,17 @@ pub fn see(
     frame: &mut [u8; FRAME_ROOM],
     last: &mut [u8; ANSWER_ROOM],
     buf: &mut [u8],
+    display: &mut [u8],
     bytes: &[u8],
     from: usize,
 ) -> Seen
-    ensures { λ r. ⌜ seenOf r (now (frame .exit)) (now (last .exit)) (now (buf .exit)) ≡ witnessed (machineOf kept (now (frame .entry)) (now (last .entry))) (record { buffer = now (buf .entry); lines = 512 }) (drop from (now (bytes .entry))) ⌝ }
+    ensures { λ r. ⌜ seenOf r (now (frame .exit)) (now (last .exit)) (now (buf .exit)) (now (display .exit)) ≡ witnessed (machineOf kept (now (frame .entry)) (now (last .entry))) (record { buffer = now (buf .entry); lines = 512; display = now (display .entry) }) (drop from (now (bytes .entry))) ⌝ }
     ensures { λ r. ⌜ r .count ≤ 217 ⌝ }
 {
-    let next = kept::hear_next(kept, frame, last, buf, bytes, from);
+    let next = kept::hear_next(kept, frame, last, buf, display, bytes, from);
     let call = next.call;
     let after = next.kept;
+    let shows = next.shows;
     let device = kept.device;
     let books = device.books;
     let sheet = kept.sheet;
@@ -48,6 +52,7 @@ pub fn see(
         call,
         number: next.number,
         count: next.count,
+        shows,
         taken: next.taken,
         reason: why(books, sheet, call, &*frame),
     }

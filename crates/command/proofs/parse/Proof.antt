@@ -1,85 +1,35 @@
-use borrow.Author.Tests.{ne-eqb}
+use mathlib.Core.Path.{ap, _∙_}
+use denote.Ref.{now}
+use Rattle.kinds.proofs.Forms.{found-ne, missed-eq}
+use Rattle.command.specs.Commands.{notMarked}
+use Rattle.command.proofs.Marks.{of-100, unmarked, marked}
 use borrow.Author.Needs.{needs}
 use Rattle.command.proofs.parse.Statement.{statement}
 use Rattle.command.proofs.parse.Tie as tie
 
 returns : tie.Need-returns
-returns c = rw (c .before .match .keys1) (c .bare .ensures)
+returns c =
+    let read = c .before in
+    let a = read .before .before .args in
+    read .form-of .ensures ∙ of-100 (a .code) (now (a .bytes)) (c .if1 .taken)
 
 returns-2 : tie.Need-returns-2
-returns-2 c = rw (c .before .match .keys2) (c .bare2 .ensures)
+returns-2 c =
+    let found = c .before in
+    let other = found .before in
+    let read = other .before in
+    let a = read .before .before .args in
+    read .form-of .ensures ∙ unmarked (a .code) (now (a .bytes)) (other .if1 .left) (missed-eq 0x10 (now (a .bytes)) (found .find .result) (found .find .ensures) (c .if2 .taken))
 
 returns-3 : tie.Need-returns-3
-returns-3 c = rw (c .before .match .keys3) (c .text .ensures)
-
-returns-4 : tie.Need-returns-4
-returns-4 c = rw (c .before .match .keys4) (c .open-receipt .ensures)
-
-returns-5 : tie.Need-returns-5
-returns-5 c = rw (c .before .match .keys5) (c .sell .ensures)
-
-returns-6 : tie.Need-returns-6
-returns-6 c = rw (c .before .match .keys6) (c .subtotal .ensures)
-
-returns-7 : tie.Need-returns-7
-returns-7 c = rw (c .before .match .keys7) (c .pay .ensures)
-
-returns-8 : tie.Need-returns-8
-returns-8 c = rw (c .before .match .keys8) (c .bare3 .ensures)
-
-returns-9 : tie.Need-returns-9
-returns-9 c = rw (c .before .match .keys9) (c .bare4 .ensures)
-
-returns-10 : tie.Need-returns-10
-returns-10 c = rw (c .before .match .keys10) (c .sums .ensures)
-
-returns-11 : tie.Need-returns-11
-returns-11 c = rw (c .before .match .keys11) (c .closing .ensures)
-
-returns-12 : tie.Need-returns-12
-returns-12 c = rw (c .before .match .keys12) (c .drawer .ensures)
-
-returns-13 : tie.Need-returns-13
-returns-13 c = rw (c .before .match .keys13) (c .bare5 .ensures)
-
-returns-14 : tie.Need-returns-14
-returns-14 c = rw (c .before .match .keys14) (c .bare6 .ensures)
-
-returns-15 : tie.Need-returns-15
-returns-15 c =
-    let n = c .before .before .args .code in
-    rw (ne-eqb n 38 (c .match .rest .0 .0 .0 .0 .0 .0 .0 .0 .0 .0 .0 .0 .0 .1), ne-eqb n 39 (c .match .rest .0 .0 .0 .0 .0 .0 .0 .0 .0 .0 .0 .0 .1), ne-eqb n 42 (c .match .rest .0 .0 .0 .0 .0 .0 .0 .0 .0 .0 .0 .1), ne-eqb n 48 (c .match .rest .0 .0 .0 .0 .0 .0 .0 .0 .0 .0 .1), ne-eqb n 49 (c .match .rest .0 .0 .0 .0 .0 .0 .0 .0 .0 .1), ne-eqb n 51 (c .match .rest .0 .0 .0 .0 .0 .0 .0 .0 .1), ne-eqb n 53 (c .match .rest .0 .0 .0 .0 .0 .0 .0 .1), ne-eqb n 56 (c .match .rest .0 .0 .0 .0 .0 .0 .1), ne-eqb n 60 (c .match .rest .0 .0 .0 .0 .0 .1), ne-eqb n 65 (c .match .rest .0 .0 .0 .0 .1), ne-eqb n 69 (c .match .rest .0 .0 .0 .1), ne-eqb n 70 (c .match .rest .0 .0 .1), ne-eqb n 74 (c .match .rest .0 .1), ne-eqb n 97 (c .match .rest .1))
+returns-3 c =
+    let held = c .before in
+    let found = held .before in
+    let other = found .before in
+    let read = other .before in
+    let a = read .before .before .args in
+    c .not-marked .ensures ∙ ap notMarked (read .form-of .ensures)
+    ∙ marked (a .code) (now (a .bytes)) (other .if1 .left) (found-ne 0x10 (now (a .bytes)) (found .find .result) (found .find .ensures) (held .if2 .left))
 
 pub parse-spec : {M : Type 1} → statement M
-parse-spec =
-    tie.close
-    (tie.spec
-    (λ c κs. search needs)
-    (λ c κs. search needs)
-    (λ c κs. search needs)
-    (λ c κs. search needs)
-    (λ c κs. search needs)
-    (λ c κs. search needs)
-    (λ c κs. search needs)
-    (λ c κs. search needs)
-    (λ c κs. search needs)
-    (λ c κs. search needs)
-    (λ c κs. search needs)
-    (λ c κs. search needs)
-    (λ c κs. search needs)
-    (λ c κs. search needs)
-    returns
-    returns-2
-    returns-3
-    returns-4
-    returns-5
-    returns-6
-    returns-7
-    returns-8
-    returns-9
-    returns-10
-    returns-11
-    returns-12
-    returns-13
-    returns-14
-    returns-15)
+parse-spec = tie.close (tie.spec (λ c κs. search needs) returns (λ c κs. search needs) returns-2 (λ c κs. search needs) returns-3)

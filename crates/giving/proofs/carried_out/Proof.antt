@@ -13,6 +13,7 @@ returns c =
       device = record { line = record { reader = a .begun .device .line .reader; previous = Frame (a .seq) (a .code) (w .count) }; books = w .books };
       number = w .number;
       count = w .count;
+      shows = a .begun .shows;
     })) (c .writes-of .ensures)
 
 pub carried-out-spec : {M : Type 1} → statement M

@@ -14,7 +14,7 @@ returns c =
     let asked = called .before .before .before .before in
     let a = asked .before .before .before .args in
     let said = called .hear-few .ensures in (
-      few-are (a .kept) (now (a .frame)) (now (a .last)) (now (a .buf)) (drop (a .from) (now (a .bytes))) (a .lines) (called .hear-few .result) _ _ _ (asked .if1 .taken) (said .0) (said .1 .0) (said .1 .1 .0) (said .1 .1 .1),
+      few-are (a .kept) (now (a .frame)) (now (a .last)) (now (a .buf)) (now (a .display)) (drop (a .from) (now (a .bytes))) (a .lines) (called .hear-few .result) _ _ _ _ (asked .if1 .taken) (said .0) (said .1 .0) (said .1 .1 .0) (said .1 .1 .1 .0) (said .1 .1 .1 .1),
       omega (arith, ap (λ (z : Next). z .count) (said .0)),
     )
 
@@ -23,7 +23,7 @@ returns-2 c =
     let called = c .before .before in
     let asked = called .before .before .before .before in
     let a = asked .before .before .before .args in (
-      all-are (a .kept) (now (a .frame)) (now (a .last)) (now (a .buf)) (drop (a .from) (now (a .bytes))) (a .lines) (called .hear-next .result) _ _ _ (asked .if1 .left) (called .hear-next .ensures .0),
+      all-are (a .kept) (now (a .frame)) (now (a .last)) (now (a .buf)) (now (a .display)) (drop (a .from) (now (a .bytes))) (a .lines) (called .hear-next .result) _ _ _ _ (asked .if1 .left) (called .hear-next .ensures .0),
       called .hear-next .ensures .1,
     )
 

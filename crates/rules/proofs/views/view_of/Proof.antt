@@ -46,6 +46,9 @@ returns-13 c = sym (ap viewOf (c .enum-told7 .given .1))
 returns-14 : tie.Need-returns-14
 returns-14 c = sym (ap viewOf (c .enum-told8 .given .1))
 
+returns-15 : tie.Need-returns-15
+returns-15 c = sym (ap viewOf (c .enum-told9 .given .1))
+
 pub view-of-spec : {M : Type 1} → statement M
 view-of-spec =
     tie.close
@@ -67,6 +70,7 @@ view-of-spec =
     (λ c κs. search needs)
     (λ c. search needs)
     (λ c. search needs)
+    (λ c. search needs)
     returns
     returns-2
     returns-3
@@ -80,4 +84,5 @@ view-of-spec =
     returns-11
     returns-12
     returns-13
-    returns-14)
+    returns-14
+    returns-15)

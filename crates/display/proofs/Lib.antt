@@ -1,0 +1,4 @@
+pub mod Marks
+pub mod Shown
+pub mod Laws
+pub mod Examples
