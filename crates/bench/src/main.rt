@@ -5,6 +5,7 @@ mod tell;
 
 use desk::BACK_ROOM;
 use desk::ENDED;
+use display::MOST_SHOWN;
 use libc::STDERR_FILENO;
 use reader::FRAME_ROOM;
 use wire::ANSWER_ROOM;
@@ -40,13 +41,24 @@ fn play() {
         }
         if desk.place < desk.got {
             let mut given = [0u8; ANSWER_ROOM];
+            let mut display = [0u8; MOST_SHOWN];
             let bytes = around::bytes_at(&arrived, desk.got);
-            let seen = witness::see(kept, &mut frame, &mut last, &mut given, bytes, desk.place);
+            let seen = witness::see(
+                kept,
+                &mut frame,
+                &mut last,
+                &mut given,
+                &mut display,
+                bytes,
+                desk.place,
+            );
             let after = seen.kept;
             let call = seen.call;
             let reason = seen.reason;
+            let shows = seen.shows;
             kept = after;
             tell::call(call, seen.number, seen.taken, reason);
+            tell::shows(shows, &display);
             desk = desk::heard(desk, call, seen.taken, &given, seen.count, &mut back);
             continue;
         }

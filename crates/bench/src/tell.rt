@@ -1,4 +1,5 @@
 // What is told, on standard output and on standard error.
+use display::Display;
 use faults::Fault;
 use kept::Kept;
 use libc::STDERR_FILENO;
@@ -56,6 +57,13 @@ pub(crate) fn came(attempt: u8, count: usize, fault: Fault, word: Word, got: &[u
 pub(crate) fn call(call: Call, number: u64, taken: usize, reason: Reason) {
     let mut text = [0u8; TEXT_ROOM];
     let n = telling::call(&mut text, 0, call, number, taken, reason);
+    say(&text, n);
+}
+
+// The text that the display shows, where there is one.
+pub(crate) fn shows(told: Display, display: &[u8]) {
+    let mut text = [0u8; TEXT_ROOM];
+    let n = telling::shows(&mut text, 0, told, display);
     say(&text, n);
 }
 

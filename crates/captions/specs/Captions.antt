@@ -45,6 +45,7 @@ labelWord label.Place = bytes "at byte behind 01"
 labelWord label.Expected = bytes "expected"
 labelWord label.Part = bytes "expected as"
 labelWord label.Skipped = bytes "bytes skipped"
+labelWord label.OnDisplay = bytes "on the display"
 
 -- a value in words; the parts of a frame as PROTOCOL 1.2 calls them, the registers as PROTOCOL 5.6 does
 abbrev pub sayingWord : Saying → List ℕ

@@ -42,6 +42,7 @@ labelPlace label.Place = 30
 labelPlace label.Expected = 31
 labelPlace label.Part = 32
 labelPlace label.Skipped = 33
+labelPlace label.OnDisplay = 34
 
 abbrev pub sayingPlace : Saying → ℕ
 sayingPlace saying.Yes = 0

@@ -14,17 +14,13 @@ pub fn put_label(buf: &mut [u8], at: usize, label: Label) -> usize
     ensures { λ r. ⌜ Put (now (buf .entry)) at (labelWord label) (now (buf .exit)) r ⌝ }
 {
     let word = row_of(
-        b"frame\n\
-        SEQ\n\
-        CMD\n\
-        data\n\
+        b"frame\nSEQ\nCMD\ndata\n\
         operator\n\
         password\n\
         till number\n\
         group\n\
         taken back, of group\n\
-        price\n\
-        quantity\n\
+        price\nquantity\n\
         percent added\n\
         percent taken off\n\
         amount added\n\
@@ -47,7 +43,8 @@ pub fn put_label(buf: &mut [u8], at: usize, label: Label) -> usize
         at byte behind 01\n\
         expected\n\
         expected as\n\
-        bytes skipped\n",
+        bytes skipped\n\
+        on the display\n",
         label_place(label),
     );
     put(buf, at, word)
@@ -91,6 +88,7 @@ fn label_place(label: Label) -> usize
         Label::Expected => 31,
         Label::Part => 32,
         Label::Skipped => 33,
+        Label::OnDisplay => 34,
     }
 }
 

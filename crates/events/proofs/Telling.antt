@@ -7,7 +7,7 @@ use native.Mathlib.Omega.{arith}
 use lib.Dec.{eqb, leb}
 use lib.ListN.{length, getD}
 use borrow.Author.Tests.{eq-eqb, ne-eqb}
-use Rattle.events.specs.Events.{deviceEvent, commandEvent, tillEvent, sizeIn, lentBy}
+use Rattle.events.specs.Events.{deviceEvent, commandEvent, tillEvent, sizeIn, sizedIn, lentBy}
 use Rattle.events.specs.declared.Lent.{Lent}
 
 -- fewer than two bytes: one more is to come
@@ -23,7 +23,7 @@ till-more (a ∷ b ∷ s) h = absurd (omega (arith, h))
 
 -- a device's event by its first two
 abbrev pub isLent : List ℕ → Bool
-isLent s = eqb (getD s 0 0) 0x53 && leb (getD s 1 0) 1
+isLent s = eqb (getD s 0 0) 0x53 && leb (getD s 1 0) 2
 
 by-two : (s : List ℕ) → 2 ≤ length s → deviceEvent s ≡ cond (eqb (getD s 0 0) 0x42) 2 (cond (isLent s) 5 0)
 by-two [] h = absurd (omega (arith, h))
@@ -85,18 +85,24 @@ module _ (s : List ℕ) (h : 2 ≤ length s) where
   till-command et eb ec all = told false false true (getD s 2 0 + 4) (ne-eqb (getD s 1 0) 0x54 et) (ne-eqb (getD s 1 0) 0x42 eb) (eq-eqb (getD s 1 0) 0x43 ec) (rest-long s all)
 
 -- what an event lends
-module _ (s : List ℕ) (room lines : ℕ) where
-  abbrev either : (byte buffer : Bool) → (size : ℕ) → Lent
-  either byte buffer size =
-      cond byte (record { room = room; lines = lines; byte = getD s 1 0 })
-      (cond buffer (record { room = size; lines = lines; byte = getD s 4 0 }) (record { room = room; lines = size; byte = getD s 4 0 }))
+module _ (s : List ℕ) (room lines shown : ℕ) where
+  abbrev all : Lent
+  all = record { room = room; lines = lines; shown = shown; byte = getD s 1 0 }
 
-  pub all-lent : getD s 0 0 ≡ 0x42 → record { room = room; lines = lines; byte = getD s 1 0 } ≡ lentBy s room lines
-  all-lent e = sym (ap (λ z. either z (eqb (getD s 1 0) 0) (sizeIn s)) (eq-eqb (getD s 0 0) 0x42 e))
+  abbrev one : Lent
+  one = record { room = sizedIn s 0 room; lines = sizedIn s 1 lines; shown = sizedIn s 2 shown; byte = getD s 4 0 }
 
-  pub one-lent : (buffer : Bool) (n : ℕ) → (getD s 0 0 ≡ 0x42 → ⊥) → eqb (getD s 1 0) 0 ≡ buffer → n ≡ sizeIn s → either false buffer n ≡ lentBy s room lines
-  one-lent buffer n e eb en =
-      ap (either false buffer) en ∙ sym (ap (λ z. either z (eqb (getD s 1 0) 0) (sizeIn s)) (ne-eqb (getD s 0 0) 0x42 e) ∙ ap (λ z. either false z (sizeIn s)) eb)
+  pub all-lent : getD s 0 0 ≡ 0x42 → record { room = room; lines = lines; shown = shown; byte = getD s 1 0 } ≡ lentBy s room lines shown
+  all-lent e = sym (ap (λ z. cond z all one) (eq-eqb (getD s 0 0) 0x42 e))
+
+  -- each thing at the length n, if it is the one that is named
+  abbrev thing : ℕ → ℕ → ℕ → ℕ
+  thing n this whole = cond (eqb (getD s 1 0) this) n whole
+
+  pub one-lent : (n a b c : ℕ) → (getD s 0 0 ≡ 0x42 → ⊥) → n ≡ sizeIn s → a ≡ thing n 0 room → b ≡ thing n 1 lines → c ≡ thing n 2 shown
+      → record { room = a; lines = b; shown = c; byte = getD s 4 0 } ≡ lentBy s room lines shown
+  one-lent n a b c e en ea eb ec =
+      rw (ea, eb, ec, en) (sym (ap (λ z. cond z all one) (ne-eqb (getD s 0 0) 0x42 e)))
 
 -- no byte says nothing
 pub no-room : (s : List ℕ) → length s ≡ 0 → 0 ≡ getD s 0 0

@@ -8,11 +8,11 @@ use Rattle.events.specs.declared.End.{End}
 use Rattle.events.specs.declared.End.the-variants.{Device, Till}
 use Rattle.events.specs.declared.Lent.{Lent}
 
--- how many bytes an event has, as far as its first ones tell; 0 where it is none. Of a device: 42h and a byte; 53h, 0 or 1, a length of two bytes and a byte
+-- how many bytes an event has, as far as its first ones tell; 0 where it is none. Of a device: 42h and a byte; 53h, 0 to 2, a length of two bytes and a byte
 abbrev pub deviceEvent : List ℕ → ℕ
 deviceEvent [] = 1
 deviceEvent (kind ∷ []) = 2
-deviceEvent (kind ∷ b ∷ bs) = cond (eqb kind 0x42) 2 (cond (eqb kind 0x53 && leb b 1) 5 0)
+deviceEvent (kind ∷ b ∷ bs) = cond (eqb kind 0x42) 2 (cond (eqb kind 0x53 && leb b 2) 5 0)
 
 -- of a till end: the length lent, then 54h; or 42h and a byte; or 43h, n, CMD and n bytes
 abbrev pub commandEvent : List ℕ → ℕ
@@ -28,14 +28,15 @@ abbrev pub eventOf : End → List ℕ → ℕ
 eventOf Device event = deviceEvent event
 eventOf Till event = tillEvent event
 
--- PROTOCOL 2.4: what a device's event lends: all, or one thing at its length, the high byte first: with 0 the buffer, else the sheet
+-- PROTOCOL 2.4: what a device's event lends: all; or one thing at its length, the high byte first: 0 is the buffer, 1 the sheet, 2 the display's buffer
 abbrev pub sizeIn : List ℕ → ℕ
 sizeIn event = getD event 2 0 * 256 + getD event 3 0
 
-abbrev pub lentBy : List ℕ → (room lines : ℕ) → Lent
-lentBy event room lines =
+abbrev pub sizedIn : List ℕ → (this all : ℕ) → ℕ
+sizedIn event this all = cond (eqb (getD event 1 0) this) (sizeIn event) all
+
+abbrev pub lentBy : List ℕ → (room lines shown : ℕ) → Lent
+lentBy event room lines shown =
     cond (eqb (getD event 0 0) 0x42)
-    (record { room = room; lines = lines; byte = getD event 1 0 })
-    (cond (eqb (getD event 1 0) 0)
-    (record { room = sizeIn event; lines = lines; byte = getD event 4 0 })
-    (record { room = room; lines = sizeIn event; byte = getD event 4 0 }))
+    (record { room = room; lines = lines; shown = shown; byte = getD event 1 0 })
+    (record { room = sizedIn event 0 room; lines = sizedIn event 1 lines; shown = sizedIn event 2 shown; byte = getD event 4 0 })

@@ -1,6 +1,8 @@
 // The events that the replay programs are told of: how many bytes one has, and what one lends to a device (README, *For the apprentice*).
 ghost use mathlib.Core.Path.{_≡_};
+ghost use mathlib.Core.Bool.{cond};
 ghost use Prim.Native.Nat.{_+_, _*_, _<_};
+ghost use lib.Dec.{eqb};
 ghost use lib.ListN.{getD};
 ghost use Rattle.events.specs.Events.{deviceEvent, tillEvent, eventOf, lentBy};
 
@@ -16,10 +18,11 @@ pub enum End {
     Till,
 }
 
-// What an event lends to a device: bytes of the buffer, lines of the sheet; and its byte.
+// What an event lends to a device: bytes of the buffer, lines of the sheet, bytes for the display; and its byte.
 pub struct Lent {
     pub room: usize,
     pub lines: usize,
+    pub shown: usize,
     pub byte: u8,
 }
 
@@ -44,7 +47,7 @@ fn of_device(event: &[u8]) -> usize
     if kind == b'B' {
         return 2;
     }
-    if (kind == b'S') & (event[1] <= 1) {
+    if (kind == b'S') & (event[1] <= 2) {
         return DEVICE_ROOM;
     }
     0
@@ -85,31 +88,36 @@ pub fn room_in(event: &[u8]) -> usize
 }
 
 // What a device's event lends, of all the bytes and lines that can be lent. Behind a short event the array holds anything.
-pub fn lent_by(event: [u8; DEVICE_ROOM], room: usize, lines: usize) -> Lent
-    ensures { λ r. ⌜ r ≡ lentBy event room lines ⌝ }
+pub fn lent_by(event: [u8; DEVICE_ROOM], room: usize, lines: usize, shown: usize) -> Lent
+    ensures { λ r. ⌜ r ≡ lentBy event room lines shown ⌝ }
 {
     let kind = event[0];
     if kind == b'B' {
         return Lent {
             room,
             lines,
+            shown,
             byte: event[1],
         };
     }
     let size = size_of(event[2], event[3]);
     let which = event[1];
-    if which == 0 {
-        return Lent {
-            room: size,
-            lines,
-            byte: event[4],
-        };
-    }
     Lent {
-        room,
-        lines: size,
+        room: lent_at(which, 0, size, room),
+        lines: lent_at(which, 1, size, lines),
+        shown: lent_at(which, 2, size, shown),
         byte: event[4],
     }
+}
+
+// The thing that is named has its length; all of every other is lent.
+fn lent_at(which: u8, this: u8, size: usize, all: usize) -> usize
+    ensures { λ r. ⌜ r ≡ cond (eqb which this) size all ⌝ }
+{
+    if which == this {
+        return size;
+    }
+    all
 }
 
 // A length of two bytes, the high one first.

@@ -38,9 +38,9 @@ expectedAt outside = only Start 0x01
 expectedAt (inside sum []) = between Len (shortest ToDevice) (longest ToDevice)
 expectedAt (inside sum (len ∷ bytes)) = getD (frontParts (dataCount ToDevice len) ++ endingParts sum) (length bytes) behindAll
 
--- PROTOCOL 1.4: whether a byte is among those expected: Tab and line feed stand in data too
+-- PROTOCOL 1.4: whether a byte is among those expected: Tab, line feed and 10h stand in data too
 abbrev pub besides : Part → ℕ → Bool
-besides Data b = eqb b 0x09 || eqb b 0x0A
+besides Data b = eqb b 0x09 || eqb b 0x0A || eqb b 0x10
 besides Start b = false
 besides Len b = false
 besides Seq b = false

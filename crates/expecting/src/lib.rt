@@ -21,7 +21,7 @@ pub enum Part {
     Nothing,
 }
 
-// A part, and the bytes from the least to the most that suit it; as data Tab and line feed suit too.
+// A part, and the bytes from the least to the most that suit it; as data Tab, line feed and 10h suit too.
 pub struct Expected {
     pub part: Part,
     pub least: u8,

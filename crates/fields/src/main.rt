@@ -36,6 +36,8 @@ const STATUS: [u8; 13] = *b" status      ";
 
 const RATES: [u8; 13] = *b" rates       ";
 
+const SHOW_TEXT: [u8; 13] = *b" show text   ";
+
 const SUBTOTAL: [u8; 13] = *b" subtotal    ";
 
 const OPEN: [u8; 13] = *b" open op     ";
@@ -167,6 +169,7 @@ fn kind(c: Command) {
         Command::Drawer(service) => drawer(service),
         Command::Status => word(STATUS),
         Command::Rates => word(RATES),
+        Command::ShowText => word(SHOW_TEXT),
     }
 }
 

@@ -2,7 +2,7 @@
 use Prim.Native.Nat.{ℕ, _+_, _%_}
 use mathlib.Core.Bool.{Bool, cond}
 use Rattle.kinds.specs.declared.Command.{Command}
-use Rattle.kinds.specs.declared.Command.the-variants.{OpenText, CloseText, PrintText, Open, Sell, Subtotal, Pay, Close, Cancel, Sums, Closing, Drawer, Status, Rates}
+use Rattle.kinds.specs.declared.Command.the-variants.{OpenText, CloseText, PrintText, Open, Sell, Subtotal, Pay, Close, Cancel, Sums, Closing, Drawer, Status, Rates, ShowText}
 use Rattle.kinds.specs.declared.Parsed.{Parsed}
 use Rattle.kinds.specs.declared.Parsed.the-variants.{Read, Syntax, Unknown}
 use Rattle.kinds.specs.declared.Password.{Password}
@@ -92,6 +92,7 @@ fieldsOf (Closing clears) = asksFor clears saying.Closing saying.Report
 fieldsOf (Drawer service) = drawerFields service
 fieldsOf Status = alone noItem
 fieldsOf Rates = alone noItem
+fieldsOf ShowText = alone noItem
 
 -- none where the data is not of the command's form, or there is no such command
 abbrev pub askedOf : Parsed → Four

@@ -48,6 +48,7 @@ fn fields_of(command: Command) -> Four
         Command::Drawer(s) => drawer_fields(s),
         Command::Status => no_fields(),
         Command::Rates => no_fields(),
+        Command::ShowText => no_fields(),
     }
 }
 

@@ -46,6 +46,7 @@ pub enum Label {
     Expected,
     Part,
     Skipped,
+    OnDisplay,
 }
 
 // A value that is said in words.

@@ -1,4 +1,5 @@
 // As much as a receipt and a frame hold, and one more (PROTOCOL 8.1, 8.2).
+use display::MOST_SHOWN;
 use kept::Kept;
 use kept::Next;
 use libc::STDOUT_FILENO;
@@ -66,10 +67,11 @@ fn send(
     content: &[u8],
 ) -> Next {
     let mut buf = [0u8; ANSWER_ROOM];
+    let mut display = [0u8; MOST_SHOWN];
     let mut command = [0u8; COMMAND_ROOM];
     let built = wire::build::build_command(&mut command, seq, code, content);
     let n = basics::least_size(size_of(built), COMMAND_ROOM);
-    kept::hear_next(kept, frame, last, &mut buf, &command[0..n], 0)
+    kept::hear_next(kept, frame, last, &mut buf, &mut display, &command[0..n], 0)
 }
 
 // Command 42 with n data bytes.

@@ -69,6 +69,11 @@ pub fn text(html: bool, label: Label, bytes: &[u8]) {
     if bytes.len() == 0 {
         return;
     }
+    line_of(html, label, bytes);
+}
+
+// The same also where there are none.
+pub fn line_of(html: bool, label: Label, bytes: &[u8]) {
     let mut line = [0u8; LINE_ROOM];
     let at = open(&mut line, html, label);
     letters(&mut line, at, html, bytes);

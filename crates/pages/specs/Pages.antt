@@ -56,7 +56,7 @@ valueText (Digits width number) = digits width number
 valueText (Letter b) = b ∷ []
 valueText (Byte b) = hexTwo b
 valueText (Bytes least most) = bytesFrom least most
-valueText InData = bytes "09, 0a, 20 to ff"
+valueText InData = bytes "09, 0a, 10, 20 to ff"
 valueText (Said saying) = sayingWord saying
 
 -- the heading of a frame: its offset, its name where it has one, and what became of it; in a page with a section and its table

@@ -112,7 +112,7 @@ pub fn put_value(buf: &mut [u8], at: usize, value: Value) -> usize
         Value::Letter(b) => put_one(buf, at, b),
         Value::Byte(b) => put_hex(buf, at, b as u64),
         Value::Bytes { least, most } => put_between(buf, at, least, most),
-        Value::InData => put(buf, at, b"09, 0a, 20 to ff"),
+        Value::InData => put(buf, at, b"09, 0a, 10, 20 to ff"),
         Value::Said(saying) => put_saying(buf, at, saying),
     }
 }

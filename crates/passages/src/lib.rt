@@ -1,5 +1,6 @@
 // The parts of what is told of a frame.
 // Part of `explain`, in a room of its own because of its check's time; what it writes no contract can say.
+use display::Display;
 use items::Item;
 use items::Kind;
 use items::Label;
@@ -106,6 +107,14 @@ pub fn refusal(html: bool, number: u64, reason: Reason) {
         return;
     }
     output::said(html, Label::Reason, b" ~", words::reason_word(reason), 0, 0);
+}
+
+// The text on the display, where one is shown; it can have no bytes.
+pub fn shown(html: bool, shows: Display, display: &[u8]) {
+    match shows {
+        Display::Stays => {}
+        Display::Shows(n) => output::line_of(html, Label::OnDisplay, front(display, n)),
+    }
 }
 
 // The answer, by the command that the frame had.

@@ -55,6 +55,10 @@ because = bytes ", ~|"
 abbrev pub lineEnd : List ℕ
 lineEnd = bytes "|"
 
+-- PROTOCOL 5.17: what its display shows
+abbrev pub displays : List ℕ
+displays = bytes "  display: \"^\"|"
+
 -- PROTOCOL 7.1: what the till end says, at length and briefly
 abbrev pub answered : List ℕ
 answered = bytes "  till end: Answered # \"^\""
@@ -140,6 +144,7 @@ sentences =
     ∷ textOpen
     ∷ fiscalOpen
     ∷ ended
+    ∷ displays
     ∷ []
 
 -- SCRIPTS 6: by the number of what is wrong with a line; 6 and 7 are SCRIPTS 8's

@@ -44,7 +44,8 @@ pub fn sentence(buf: &mut [u8], at: usize, k: usize, word: &[u8], figures: &[u64
         \x20 no receipt is open|\n\
         \x20 a non-fiscal receipt is open|\n\
         \x20 a fiscal receipt is open: lines #, total $, paid $|\n\
-        commands: # answered, # unfinished, # not sent; carried out by the device: #|\n",
+        commands: # answered, # unfinished, # not sent; carried out by the device: #|\n\
+        \x20 display: \"^\"|\n",
         k,
     );
     fill(buf, at, row, word, figures)

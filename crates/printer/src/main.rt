@@ -1,5 +1,6 @@
 // A device on a line: the raw bytes that it receives on standard input or a LINE, all that it gives back on standard output or the same LINE,
 // as soon as it is there. With a RECORDING it stands where that ends, and keeps there what it hears (LINE).
+use display::MOST_SHOWN;
 use kept::Kept;
 use options::Ends;
 use reader::FRAME_ROOM;
@@ -46,7 +47,7 @@ fn run(ends: Ends) {
     }
 }
 
-// A part of the line or of the recording; what it gives back stands in `out`.
+// A part of the line or of the recording; what it gives back stands in `out`. There is no display here: what is shown is not looked at.
 fn hear(
     kept: Kept,
     frame: &mut [u8; FRAME_ROOM],
@@ -55,8 +56,18 @@ fn hear(
     out: &mut [u8],
 ) -> Part {
     let mut buf = [0u8; ANSWER_ROOM];
+    let mut display = [0u8; MOST_SHOWN];
     let mut none = [0u8; 1];
-    recorder::hear_part(kept, frame, last, &mut buf, bytes, out, &mut none[0..0])
+    recorder::hear_part(
+        kept,
+        frame,
+        last,
+        &mut buf,
+        &mut display,
+        bytes,
+        out,
+        &mut none[0..0],
+    )
 }
 
 fn part_room() -> [u8; PART_ROOM]

@@ -109,8 +109,7 @@ pub the-calls-are-the-recording : (f g : Machines) → Fresh f → (bytes gives 
 the-calls-are-the-recording f g fresh bytes gives texts h =
     let t = through (fresh-device f fresh) h in
     let says-fresh : stateIn f ≡ switchedOn (freshStore (f .device .sheet)) = rw (fresh .device) in
-    let same : recording (f .device .sheet) bytes ≡ record { gives = gives; carried = t .carried; state = stateIn g } = sym (ap (λ s. session carry s bytes) says-fresh) ∙ t .is-session in
-    (
+    let same : recording (f .device .sheet) bytes ≡ record { gives = gives; carried = t .carried; state = stateIn g } = sym (ap (λ s. session carry s bytes) says-fresh) ∙ t .is-session in (
       sym (ap (λ (s : Session Store). s .gives) same),
       (sym (ap (λ (s : Session Store). s .state .store) same), t .texts-are ∙ sym (ap (λ (s : Session Store). textsOf (s .carried)) same)),
     )

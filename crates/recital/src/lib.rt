@@ -1,5 +1,6 @@
 // A whole recording told, part by part and call by call.
 // Part of `explain`, in a room of its own because of its check's time; what it writes no contract can say.
+use display::MOST_SHOWN;
 use reader::FRAME_ROOM;
 use sentences::front;
 use wire::ANSWER_ROOM;
@@ -30,11 +31,21 @@ pub fn tell(fd: i32, html: bool) {
             return;
         }
         let mut buf = [0u8; ANSWER_ROOM];
+        let mut display = [0u8; MOST_SHOWN];
         let read = part(&bytes, span.count);
-        let seen = witness::see(kept, &mut frame, &mut last, &mut buf, read, span.from);
+        let seen = witness::see(
+            kept,
+            &mut frame,
+            &mut last,
+            &mut buf,
+            &mut display,
+            read,
+            span.from,
+        );
         kept = seen.kept;
         let call = seen.call;
         let reason = seen.reason;
+        let shows = seen.shows;
         let taken = taken_of(&bytes, span, seen.taken);
         let given = front(&buf, seen.count);
         story::call(
@@ -46,6 +57,8 @@ pub fn tell(fd: i32, html: bool) {
             seen.number,
             reason,
             given,
+            shows,
+            &display,
         );
         trail = trail::follow(trail, &mut shadow, taken);
         span = behind(span, seen.taken);

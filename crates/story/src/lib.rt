@@ -1,5 +1,6 @@
 // What is told of a call of the device, and at the end of the recording.
 // Part of `explain`, in a room of its own because of its check's time; what it writes no contract can say.
+use display::Display;
 use items::Kind;
 use line::Call;
 use reader::FRAME_ROOM;
@@ -7,7 +8,7 @@ use reasons::Reason;
 use sentences::front;
 use trail::Trail;
 
-// A call took these bytes behind those of the trail; the last of them brought it. What it gave back is `given`.
+// A call took these bytes behind those of the trail; the last of them brought it. What it gave back is `given`, what is shown stands in `display`.
 pub fn call(
     html: bool,
     trail: Trail,
@@ -17,6 +18,8 @@ pub fn call(
     number: u64,
     reason: Reason,
     given: &[u8],
+    shows: Display,
+    display: &[u8],
 ) {
     let n = taken.len();
     if n == 0 {
@@ -33,6 +36,8 @@ pub fn call(
         number,
         reason,
         given,
+        shows,
+        display,
     );
 }
 
@@ -45,6 +50,8 @@ fn told(
     number: u64,
     reason: Reason,
     given: &[u8],
+    shows: Display,
+    display: &[u8],
 ) {
     let kind = items::kind_of(call, number);
     match call {
@@ -60,6 +67,7 @@ fn told(
             passages::asked(html, shadow, count);
             passages::reply(html, number);
             passages::refusal(html, number, reason);
+            passages::shown(html, shows, display);
             passages::answered(html, shadow, given);
             output::frame_end(html);
         }

@@ -3,6 +3,9 @@ use Prim.Native.Nat.{ℕ}
 use mathlib.Core.Bool.{Bool, true, false, cond}
 use mathlib.Core.List.{List, [], _∷_, _++_}
 use lib.Dec.{eqb}
+use lib.ListN.{take}
+use Rattle.display.specs.declared.Display.{Display}
+use Rattle.display.specs.declared.Display.the-variants.{Stays, Shows}
 use Rattle.faults.specs.declared.Fault.{Fault}
 use Rattle.faults.specs.declared.Fault.the-variants as faults
 use Rattle.line.specs.declared.Call.{Call}
@@ -10,7 +13,7 @@ use Rattle.line.specs.declared.Call.the-variants.{Quiet, Nak, Again, Order}
 use Rattle.reasons.specs.declared.Reason.{Reason}
 use Rattle.words.specs.Names.{commandWord, replyWord, reasonWord}
 use Rattle.sentences.specs.Filled.{filled}
-use Rattle.phrases.specs.Sentences.{headingLong, headingBrief, tryOne, tryMany, answerOne, answerMany, whole, becomes, lost, quiet, broken, repeated, carriedOut, because, lineEnd}
+use Rattle.phrases.specs.Sentences.{headingLong, headingBrief, tryOne, tryMany, answerOne, answerMany, whole, becomes, lost, quiet, broken, repeated, carriedOut, because, lineEnd, displays}
 
 -- SCRIPTS 7: the line as it stands in the script, and the command's word in brackets
 abbrev pub headingText : (brief : Bool) → (code : ℕ) → (line : List ℕ) → List ℕ
@@ -41,3 +44,8 @@ callText Quiet number taken reason = filled quiet [] (taken ∷ [])
 callText Nak number taken reason = filled broken [] (taken ∷ [])
 callText Again number taken reason = filled repeated [] (taken ∷ [])
 callText (Order seq code count) number taken reason = doneText number reason
+
+-- PROTOCOL 5.17: the text at the front of the display's buffer, where one is shown
+abbrev pub showsText : Display → (display : List ℕ) → List ℕ
+showsText Stays display = []
+showsText (Shows n) display = filled displays (take n display) []

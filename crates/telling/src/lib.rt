@@ -1,11 +1,13 @@
 // What is told of a command, of its tries and of what the device makes of them (SCRIPTS 7, 8), put into a lent buffer. Each function says the
 // place behind its text, or the buffer's end.
+use display::Display;
 use faults::Fault;
 use line::Call;
 use phrases::plain;
 use phrases::sentence;
 use phrases::worded;
 use reasons::Reason;
+use sentences::front;
 use sentences::put;
 ghost use mathlib.Core.Path.{_≡_};
 ghost use mathlib.Core.Bool.{cond};
@@ -14,7 +16,7 @@ ghost use lib.Dec.{eqb};
 ghost use Rattle.sentences.specs.Put.{Put};
 ghost use Rattle.sentences.specs.Filled.{filled};
 ghost use Rattle.phrases.specs.Sentences.{hearsNothing};
-ghost use Rattle.telling.specs.Telling.{headingText, wayText, whyText, doneText, callText};
+ghost use Rattle.telling.specs.Telling.{headingText, wayText, whyText, doneText, callText, showsText};
 ghost use Rattle.telling.specs.Private.{wayRow, fateOf, callRow};
 
 // Rows of the table of sentences.
@@ -25,6 +27,8 @@ const DONE: usize = 13;
 const WHY: usize = 14;
 
 const LINE_END: usize = 15;
+
+const DISPLAYS: usize = 32;
 
 // The sentence for what happens on the way, with its numbers.
 pub struct Fate {
@@ -164,4 +168,14 @@ fn why(buf: &mut [u8], at: usize, number: u64, reason: Reason) -> usize
     }
     let none = [0u64; 1];
     worded(buf, at, WHY, words::reason_word(reason), &none[..0])
+}
+
+// What the display shows, from its lent buffer; nothing where no text is shown.
+pub fn shows(buf: &mut [u8], at: usize, told: Display, display: &[u8]) -> usize
+    ensures { λ r. ⌜ Put (now (buf .entry)) at (showsText told (now (display .entry))) (now (buf .exit)) r ⌝ }
+{
+    match told {
+        Display::Stays => put(buf, at, b""),
+        Display::Shows(n) => plain(buf, at, DISPLAYS, front(display, n)),
+    }
 }

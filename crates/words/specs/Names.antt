@@ -9,9 +9,9 @@ use Rattle.reasons.specs.declared.Reason.{Reason}
 use Rattle.reasons.specs.declared.Reason.the-variants.{Done, Syntax, OutOfRange, Unknown, WrongPassword, ReceiptOpen, ManyReceipts, MemoryFull, NoFiscal, PaymentDone, ManyLines, GroupDisabled, OffAboveLine, NoLineBack, OffAboveGroup, PaidInFull, AboveRest, NotPaid, NoText, LittleCash, ManyFiscal, LineOver, FinishedOver, TotalOver, GroupOver, RegisterOver, DayOver, MemoryOver, CashOver, InOver, OutOver}
 use Rattle.letters.specs.Letters.{bytes}
 
--- PROTOCOL 5.1: the fourteen codes, what each is called, and the word for every other code
+-- PROTOCOL 5.1: the fifteen codes, what each is called, and the word for every other code
 abbrev pub codes : List ℕ
-codes = 38 ∷ 39 ∷ 42 ∷ 48 ∷ 49 ∷ 51 ∷ 53 ∷ 56 ∷ 60 ∷ 65 ∷ 69 ∷ 70 ∷ 74 ∷ 97 ∷ []
+codes = 38 ∷ 39 ∷ 42 ∷ 48 ∷ 49 ∷ 51 ∷ 53 ∷ 56 ∷ 60 ∷ 65 ∷ 69 ∷ 70 ∷ 74 ∷ 97 ∷ 100 ∷ []
 
 abbrev pub commandWords : List (List ℕ)
 commandWords =
@@ -29,6 +29,7 @@ commandWords =
     ∷ bytes "the drawer"
     ∷ bytes "status"
     ∷ bytes "rates"
+    ∷ bytes "a text for the display"
     ∷ bytes "unknown command"
     ∷ []
 

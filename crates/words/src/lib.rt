@@ -16,7 +16,23 @@ ghost use Rattle.words.specs.Private.{reasonPlace};
 pub fn command_word(code: u8) -> Words
     ensures { λ r. ⌜ r ≡ wordsOf (commandWord code) ⌝ }
 {
-    let codes = [38u8, 39, 42, 48, 49, 51, 53, 56, 60, 65, 69, 70, 74, 97];
+    let codes = [
+        38u8,
+        39,
+        42,
+        48,
+        49,
+        51,
+        53,
+        56,
+        60,
+        65,
+        69,
+        70,
+        74,
+        97,
+        100,
+    ];
     row(
         b"open a non-fiscal receipt\n\
         close the non-fiscal receipt\n\
@@ -32,6 +48,7 @@ pub fn command_word(code: u8) -> Words
         the drawer\n\
         status\n\
         rates\n\
+        a text for the display\n\
         unknown command\n",
         text::find(&codes, code),
     )

@@ -48,6 +48,7 @@ table =
     ∷ labelWord label.Expected
     ∷ labelWord label.Part
     ∷ labelWord label.Skipped
+    ∷ labelWord label.OnDisplay
     ∷ []
 
 -- each row is its word
@@ -86,6 +87,7 @@ told label.Place = refl
 told label.Expected = refl
 told label.Part = refl
 told label.Skipped = refl
+told label.OnDisplay = refl
 
 returns : tie.Need-returns
 returns c =

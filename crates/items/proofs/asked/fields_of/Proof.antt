@@ -46,10 +46,15 @@ returns-13 c = c .no-fields6 .ensures ∙ sym (ap fieldsOf (c .before .enum-told
 returns-14 : tie.Need-returns-14
 returns-14 c = c .no-fields7 .ensures ∙ sym (ap fieldsOf (c .before .enum-told7 .given .1))
 
+returns-15 : tie.Need-returns-15
+returns-15 c = c .no-fields8 .ensures ∙ sym (ap fieldsOf (c .before .enum-told8 .given .1))
+
 pub fields-of-spec : {M : Type 1} → statement M
 fields-of-spec =
     tie.close
     (tie.spec
+    (λ c. search needs)
+    (λ c κs. search needs)
     (λ c. search needs)
     (λ c κs. search needs)
     (λ c. search needs)
@@ -91,4 +96,5 @@ fields-of-spec =
     returns-11
     returns-12
     returns-13
-    returns-14)
+    returns-14
+    returns-15)
