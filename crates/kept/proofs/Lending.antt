@@ -80,7 +80,7 @@ module _ {M : Type 1} (𝓤 : URA M) (H : Heap 𝓤) (A : Atoms 𝓤) (at-mem : 
   abbrev pub Hear : Contract 𝓤
   Hear = tripleOf 𝓤 H A hear.signature (hear.spec 𝓤 H A at-mem run)
 
-module _ {M : Type 1} (𝓤 : URA M) (H : Heap 𝓤) (A : Atoms 𝓤) (W : Given 𝓤 H A) (at-mem : Memory → SProp 𝓤) (run : Routine → Fun 𝓤) (κf κl κo κb : Lft) (qf ql qo qb : Share) (d : Device) (dv : Val) (f l y : RefT (List ℕ)) (xs : List Line) (z : RefT (List ℕ)) (n : ℕ) (nv : Val)
+module _ {M : Type 1} (𝓤 : URA M) (H : Heap 𝓤) (A : Atoms 𝓤) (W : Given 𝓤 H A) (at-mem : Memory → SProp 𝓤) (run : Routine → Fun 𝓤) (κf κl κo κd κb : Lft) (qf ql qo qd qb : Share) (d : Device) (dv : Val) (f l y w : RefT (List ℕ)) (xs : List Line) (z : RefT (List ℕ)) (n : ℕ) (nv : Val)
     (p ν : ℕ) (γ : GName) where
   -- the local as `hear` is lent it, and its machine value
   abbrev pub lent : RefT (List Line)
@@ -90,7 +90,7 @@ module _ {M : Type 1} (𝓤 : URA M) (H : Heap 𝓤) (A : Atoms 𝓤) (W : Given
   s = sliceVal (p, 0) (length xs)
 
   abbrev pub Lent : Fml
-  Lent = MutSlice (named 3) (ν ∷ []) R .own lent (s ∷ [])
+  Lent = MutSlice (named 4) (ν ∷ []) R .own lent (s ∷ [])
 
   -- what is owned of the other references
   abbrev Framing : Fml
@@ -102,19 +102,22 @@ module _ {M : Type 1} (𝓤 : URA M) (H : Heap 𝓤) (A : Atoms 𝓤) (W : Given
   abbrev Buf : Fml
   Buf = MutSlice (named 2) κo u8 .own y (sliceVal (y .ptr) (length (y .now)) ∷ [])
 
+  abbrev Lit : Fml
+  Lit = MutSlice (named 3) κd u8 .own w (sliceVal (w .ptr) (length (w .now)) ∷ [])
+
   abbrev Heard : Fml
-  Heard = ShrSlice (named 3) κb u8 .own z (sliceVal (z .ptr) (length (z .now)) ∷ [])
+  Heard = ShrSlice (named 4) κb u8 .own z (sliceVal (z .ptr) (length (z .now)) ∷ [])
 
   abbrev pub to-hear : Hear 𝓤 H A at-mem run .Ghost
   to-hear =
-      (((κf, (κl, (κo, (ν ∷ [], (κb, tt))))), (qf, (ql, (qo, (fullShare, (qb, tt))))), tt, (d, (f, (l, (y, (lent, (z, (n, tt))))))), (dv ∷ [], (ptr-vals f, (ptr-vals l, (sliceVal (y .ptr) (length (y .now)) ∷ [], (s ∷ [], (sliceVal (z .ptr) (length (z .now)) ∷ [], (nv ∷ [], tt)))))))), tt)
+      (((κf, (κl, (κo, (κd, (ν ∷ [], (κb, tt)))))), (qf, (ql, (qo, (qd, (fullShare, (qb, tt)))))), tt, (d, (f, (l, (y, (w, (lent, (z, (n, tt)))))))), (dv ∷ [], (ptr-vals f, (ptr-vals l, (sliceVal (y .ptr) (length (y .now)) ∷ [], (sliceVal (w .ptr) (length (w .now)) ∷ [], (s ∷ [], (sliceVal (z .ptr) (length (z .now)) ∷ [], (nv ∷ [], tt))))))))), tt)
 
   pub goes-hear : Is D.the-row d (dv ∷ []) → Is usize n (nv ∷ [])
-      → ent 𝓤 (sep 𝓤 (sep 𝓤 (sep 𝓤 (sep 𝓤 (sep 𝓤 (sem 𝓤 H A Framing) (sem 𝓤 H A Last)) (sem 𝓤 H A Buf)) (sem 𝓤 H A Lent)) (sem 𝓤 H A Heard)) (sep 𝓤 (sep 𝓤 (sep 𝓤 (sep 𝓤 (A .lft κf qf) (A .lft κl ql)) (A .lft κo qo)) (A .lft (ν ∷ []) fullShare)) (A .lft κb qb))) (Hear 𝓤 H A at-mem run .pre to-hear)
+      → ent 𝓤 (sep 𝓤 (sep 𝓤 (sep 𝓤 (sep 𝓤 (sep 𝓤 (sep 𝓤 (sem 𝓤 H A Framing) (sem 𝓤 H A Last)) (sem 𝓤 H A Buf)) (sem 𝓤 H A Lit)) (sem 𝓤 H A Lent)) (sem 𝓤 H A Heard)) (sep 𝓤 (sep 𝓤 (sep 𝓤 (sep 𝓤 (sep 𝓤 (A .lft κf qf) (A .lft κl ql)) (A .lft κo qo)) (A .lft κd qd)) (A .lft (ν ∷ []) fullShare)) (A .lft κb qb))) (Hear 𝓤 H A at-mem run .pre to-hear)
   goes-hear d-is n-is =
-      qed W (((((‵ Framing ⊛ ‵ Last) ⊛ ‵ Buf) ⊛ ‵ Lent) ⊛ ‵ Heard) ∷ ((((‵ (flft κf qf) ⊛ ‵ (flft κl ql)) ⊛ ‵ (flft κo qo)) ⊛ ‵ (flft (ν ∷ []) fullShare)) ⊛ ‵ (flft κb qb)) ∷ []) ∵
-      split ! $ split ! $ split ! $ split ! $ move ! (5 ∷ []) $ split ! $ split ! $ split ! $ split ! $
-      -- [κf; κl; κo; ν; κb; frame; last; buf; sheet; bytes]
-      nothing ! $ owned ! usize (Is usize) (uint-makes 𝓤 H A W w64) n _ n-is $ fjoin ! $ move ! (10 ∷ 0 ∷ []) $ fjoin ! $ move ! (9 ∷ 0 ∷ []) $ fjoin ! $ move ! (8 ∷ 0 ∷ []) $ fjoin ! $ move ! (7 ∷ 0 ∷ []) $ fjoin ! $ move ! (6 ∷ 0 ∷ []) $ fjoin ! $
+      qed W ((((((‵ Framing ⊛ ‵ Last) ⊛ ‵ Buf) ⊛ ‵ Lit) ⊛ ‵ Lent) ⊛ ‵ Heard) ∷ (((((‵ (flft κf qf) ⊛ ‵ (flft κl ql)) ⊛ ‵ (flft κo qo)) ⊛ ‵ (flft κd qd)) ⊛ ‵ (flft (ν ∷ []) fullShare)) ⊛ ‵ (flft κb qb)) ∷ []) ∵
+      split ! $ split ! $ split ! $ split ! $ split ! $ move ! (6 ∷ []) $ split ! $ split ! $ split ! $ split ! $ split ! $
+      -- [κf; κl; κo; κd; ν; κb; frame; last; buf; display; sheet; bytes]
+      nothing ! $ owned ! usize (Is usize) (uint-makes 𝓤 H A W w64) n _ n-is $ fjoin ! $ move ! (12 ∷ 0 ∷ []) $ fjoin ! $ move ! (11 ∷ 0 ∷ []) $ fjoin ! $ move ! (10 ∷ 0 ∷ []) $ fjoin ! $ move ! (9 ∷ 0 ∷ []) $ fjoin ! $ move ! (8 ∷ 0 ∷ []) $ fjoin ! $ move ! (7 ∷ 0 ∷ []) $ fjoin ! $
       owned ! D.the-row (Is D.the-row) (LL.makes D.the-type D′.the-plain 𝓤 H A) d _ d-is $ fjoin ! $
-      nothing ! $ move ! (6 ∷ 0 ∷ []) $ join ! $ move ! (5 ∷ 0 ∷ []) $ join ! $ move ! (4 ∷ 0 ∷ []) $ join ! $ move ! (3 ∷ 0 ∷ []) $ join ! $ move ! (2 ∷ 0 ∷ []) $ join ! $ join ! $ nothing ! $ move ! (1 ∷ 0 ∷ []) $ join ! $ done !
+      nothing ! $ move ! (7 ∷ 0 ∷ []) $ join ! $ move ! (6 ∷ 0 ∷ []) $ join ! $ move ! (5 ∷ 0 ∷ []) $ join ! $ move ! (4 ∷ 0 ∷ []) $ join ! $ move ! (3 ∷ 0 ∷ []) $ join ! $ move ! (2 ∷ 0 ∷ []) $ join ! $ join ! $ nothing ! $ move ! (1 ∷ 0 ∷ []) $ join ! $ done !
