@@ -73,7 +73,7 @@ part-is g dv zs d-is given-is listed-is z-is =
     (LL.owes P.the-type P′.the-laws (partWith g zs) (LL.owes K.the-type K′.the-laws k (LL.owed K.the-type K′.the-laws k _ k-is), (given-is, (listed-is, tt))))
 
 -- what the run hands back is the part heard
-pub handed : (k : Kept) (frame last buffer bytes out orders : List ℕ) (g : Run) (s : Running) → g ≡ startOf (k .device) (length bytes)
-    → s ≡ heardThrough bytes (record { run = g; frame = frame; last = last; buffer = buffer; sheet = k .sheet; out = out; orders = orders }) → handedBack s ≡ partHeard k frame last buffer bytes out orders
-handed k frame last buffer bytes out orders g s eg e =
-    ap handedBack e ∙ ap (λ (h : Run). handedBack (heardThrough bytes (record { run = h; frame = frame; last = last; buffer = buffer; sheet = k .sheet; out = out; orders = orders }))) eg
+pub handed : (k : Kept) (frame last buffer display bytes out orders : List ℕ) (g : Run) (s : Running) → g ≡ startOf (k .device) (length bytes)
+    → s ≡ heardThrough bytes (record { run = g; frame = frame; last = last; buffer = buffer; display = display; sheet = k .sheet; out = out; orders = orders }) → handedBack s ≡ partHeard k frame last buffer display bytes out orders
+handed k frame last buffer display bytes out orders g s eg e =
+    ap handedBack e ∙ ap (λ (h : Run). handedBack (heardThrough bytes (record { run = h; frame = frame; last = last; buffer = buffer; display = display; sheet = k .sheet; out = out; orders = orders }))) eg

@@ -80,12 +80,12 @@ module _ (bytes : List ℕ) where
   run-done s e = stops (callsLeft bytes s) s e
 
   -- what a call hands back, noted down, is one call more
-  pub call-is : (s : Running) (h : Hearing) (frame last buffer : List ℕ) (sheet : List Line) (n : NotedDown)
-      → partOf h frame last buffer sheet (length (s .sheet)) ≡ afterPart (machineIn s) (lentIn s) (drop (s .run .place) bytes)
+  pub call-is : (s : Running) (h : Hearing) (frame last buffer display : List ℕ) (sheet : List Line) (n : NotedDown)
+      → partOf h frame last buffer display sheet (length (s .sheet)) ≡ afterPart (machineIn s) (lentIn s) (drop (s .run .place) bytes)
       → n ≡ notedDown (s .run) h frame buffer (length bytes) (s .out) (s .orders)
-      → record { run = n .run; frame = frame; last = last; buffer = buffer; sheet = sheet; out = n .out; orders = n .orders } ≡ oneCall bytes s
-  call-is s h frame last buffer sheet n e en =
-      ap (λ (z : NotedDown). record { run = z .run; frame = frame; last = last; buffer = buffer; sheet = sheet; out = z .out; orders = z .orders }) en
+      → record { run = n .run; frame = frame; last = last; buffer = buffer; display = display; sheet = sheet; out = n .out; orders = n .orders } ≡ oneCall bytes s
+  call-is s h frame last buffer display sheet n e en =
+      ap (λ (z : NotedDown). record { run = z .run; frame = frame; last = last; buffer = buffer; display = display; sheet = sheet; out = z .out; orders = z .orders }) en
       ∙ ap (behindCall s (length bytes)) e
 
   -- so the loop keeps where all calls end, comes nearer, and stops there
