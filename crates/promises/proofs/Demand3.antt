@@ -6,7 +6,7 @@
 use mathlib.Core.Path.{_≡_, refl, sym, ap, _∙_, subst}
 use mathlib.Core.Bool.{Bool, true, false, cond, not, _&&_, false≢true}
 use mathlib.Core.Logic.{_⊎_, inl, inr}
-use mathlib.Core.List.{List, [], _∷_, _++_, Sublist}
+use mathlib.Core.List.{List, [], _∷_, _++_, Sublist, append-nil}
 use Prim.Native.Nat.{ℕ, zero, suc, _+_}
 use lib.Dec.{ltb, eqb}
 use lib.ListN.{length, replicate}
@@ -15,12 +15,13 @@ use borrow.Author.Tests.{ne-eqb}
 use Rattle.wire.specs.Frame.{Message, frame, sendable}
 use Rattle.wire.specs.declared.Way.the-variants.{ToDevice}
 use Rattle.basics.proofs.Tests.{both, and-true}
-use Rattle.reader.specs.Reading.{outside, brokenFrame}
+use Rattle.reader.specs.Reading.{Event, outside, brokenFrame}
+use Rattle.display.specs.Display.{shownBy}
 use Rattle.sheet.specs.declared.Line.{Line}
 use Rattle.store.specs.Store.{Store, freshStore}
-use Rattle.line.specs.Turns.{Carried, Before, switchedOn, session}
+use Rattle.line.specs.Turns.{State, Carried, Before, switchedOn, session}
 use Rattle.tries.specs.Tries.{Arrival, cut, mayArrive, arriving, Begun, clear, begun, brings}
-use Rattle.delivery.specs.Delivery.{isWhole, Sent, all, any, tried, differsFrom, delivery, commands, triesArriving, allArriving, givenBack, carryAll, AllBring, EndedByTheNext}
+use Rattle.delivery.specs.Delivery.{isWhole, Sent, all, any, tried, differsFrom, delivery, commands, triesArriving, allArriving, givenBack, heardIn, carryAll, TryBrings, AllBring, EndedByTheNext}
 use Rattle.delivery.specs.AtMostOnce.{allMayCome, allHeard, withoutRepeats, noneLacksLast, arrivedWhole, neighboursDiffer}
 use Rattle.delivery.proofs.Delivered.{carries-out-that-very-list, brings-for-each-try, same-bytes-same-list}
 use Rattle.delivery.proofs.AtMostOnce.{carries-out-what-is-heard, carries-out-those-whole}
@@ -89,6 +90,15 @@ the-calls-carry-out-the-list f g fresh cs e gives texts h =
 -- shows any
 pub shows-the-list-s-texts : (store : Store) (cs : List Sent) → delivery cs ≡ true → textsOf (session carry (switchedOn store) (allArriving cs) .carried) ≡ textsOf (commands cs)
 shows-the-list-s-texts store cs e = ap textsOf (carries-out-that-very-list carry cs e store .0)
+
+-- try by try (`each-try-brings`): the text of a command is shown with the try that carries it out, and a try that carries out none shows none
+pub a-try-shows : {s : State Store} {m : Message} {done : Bool} {last : List ℕ} {k : Carried Store} {a : Arrival} {brought : List Event} → TryBrings carry s m done last k a brought
+    → textsOf (session carry s (arriving (frame ToDevice m) a) .carried) ≡ cond (not done && heardIn m brought) (shownBy (m .code) (m .content)) []
+a-try-shows {m = m} {done = done} {brought = brought} t = ap textsOf (t .carried) ∙ go (not done && heardIn m brought)
+  where
+    go : (now : Bool) → textsOf (cond now (m ∷ []) []) ≡ cond now (shownBy (m .code) (m .content)) []
+    go true = append-nil (shownBy (m .code) (m .content))
+    go false = refl
 
 -- and `recorder::hear_all` promises `toldIn` of the recording, so that the list it lists and the books it hands back are these
 pub the-code-tells-the-list : (sheet : List Line) (cs : List Sent) → delivery cs ≡ true → (out orders : List ℕ)

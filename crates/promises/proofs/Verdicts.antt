@@ -31,7 +31,7 @@ use Rattle.kinds.specs.declared.Parsed.{Parsed}
 use Rattle.kinds.specs.declared.Parsed.the-variants.{Read, Syntax, Unknown}
 use Rattle.kinds.specs.declared.Service.the-variants.{In, Out}
 use Rattle.command.specs.Money.{star, semicolon, groupOf, quantityIn, pricedOf, withPercent, withAmount, saleOf, sellOf, behindTabOf, restThen, isMode, modeOf, tenderOf, paymentIn, payOf, drawerOf}
-use Rattle.command.specs.Commands.{parsedOf}
+use Rattle.command.specs.Commands.{formOf, notMarked, parsedOf}
 use Rattle.receipt.specs.Lines.{adjustFits}
 use Rattle.sheet.specs.declared.Match.{Match}
 use Rattle.books.specs.declared.Books.{Books}
@@ -193,6 +193,15 @@ behind-tab-right (g ∷ s) =
 sell-right : (s : List ℕ) → Right (sellOf s)
 sell-right s = rest-right (restOf s) s behindTabOf behind-tab-right
 
+form-right : (code : ℕ) (s : List ℕ) → Right (formOf code s)
+form-right code s =
+    search (either, plain, syntax, no-kind, opens, sell-right, pay-right, sums-right, closing-right, drawer-right) depth 22
+
+-- 10h makes a known command 1, and an unknown one stays
+marked-right : (p : Parsed) → Right (notMarked p)
+marked-right (Read c) = syntax
+marked-right Syntax = syntax
+marked-right Unknown = no-kind
+
 pub parsed-right : (code : ℕ) (s : List ℕ) → Right (parsedOf code s)
-parsed-right code s =
-    search (either, plain, syntax, no-kind, opens, sell-right, pay-right, sums-right, closing-right, drawer-right) depth 20
+parsed-right code s = either (not (eqb code 100) && has 0x10 s) _ _ (marked-right (formOf code s)) (form-right code s)

@@ -15,8 +15,9 @@ abbrev μ-loop : tie.MeasureT-loop
 
 loop-less : tie.Need-loop-less Inv-loop μ-loop
 loop-less c =
-    let seen = c .before .before .before .before .before .before .before .before in
-    omega (arith, seen .before .before .before .before .before .before .before .before .loop-test .taken)
+    let told = c .before .before .before .before .before .before in
+    let arrived = told .before .before .before .before .before .before .before .before in
+    omega (arith, arrived .before .before .before .before .before .before .loop-test .taken)
 
 loop-less-2 : tie.Need-loop-less-2 Inv-loop μ-loop
 loop-less-2 c = omega arith
@@ -35,7 +36,10 @@ play-spec =
     (λ c. search needs)
     (λ c κs. search needs)
     (λ c. search needs)
+    (λ c. search needs)
     (λ c κs. search needs)
+    (λ c κs. search needs)
+    (λ c. search needs)
     (λ c κs. search needs)
     (λ c κs. search needs)
     loop-less

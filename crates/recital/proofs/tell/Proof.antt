@@ -11,10 +11,16 @@ abbrev μ-loop : tie.MeasureT-loop
 μ-loop fd html bytes₀ frame₀ last₀ shadow₀ kept₀ trail₀ span₀ turns₀ bytes frame last shadow kept trail span turns = turns
 
 sub-turns : tie.Need-sub-turns Inv-loop μ-loop
-sub-turns c = omega (arith, c .before .before .before .before .before .before .before .before .before .before .before .before .before .before .before .before .before .before .before .before .before .loop-test .taken)
+sub-turns c =
+    let told = c .before .before .before .before .before .before .before .before in
+    let lent = told .before .before .before .before .before .before .before .before in
+    omega (arith, lent .before .before .before .before .before .before .before .before .loop-test .taken)
 
 loop-less : tie.Need-loop-less Inv-loop μ-loop
-loop-less c = omega (arith, c .before .before .before .before .before .before .before .before .before .before .before .before .before .before .before .before .before .before .before .before .before .loop-test .taken)
+loop-less c =
+    let told = c .before .before .before .before .before .before .before .before in
+    let lent = told .before .before .before .before .before .before .before .before in
+    omega (arith, lent .before .before .before .before .before .before .before .before .loop-test .taken)
 
 pub tell-spec : {M : Type 1} → statement M
 tell-spec =
@@ -31,10 +37,12 @@ tell-spec =
     (λ c. search needs)
     (λ c κs. search needs)
     (λ c. search needs)
+    (λ c. search needs)
     (λ c κs. search needs)
     (λ c κs. search needs)
     (λ c. search needs)
     (λ c κs. search needs)
+    (λ c. search needs)
     (λ c κs. search needs)
     (λ c κs. search needs)
     (λ c κs. search needs)
