@@ -9,6 +9,7 @@ use display::MOST_SHOWN;
 use libc::STDERR_FILENO;
 use reader::FRAME_ROOM;
 use wire::ANSWER_ROOM;
+use witness::see;
 
 fn main() {
     if 1 < os::arg_count() {
@@ -40,26 +41,19 @@ fn play() {
             return;
         }
         if desk.place < desk.got {
-            let mut given = [0u8; ANSWER_ROOM];
-            let mut display = [0u8; MOST_SHOWN];
+            let mut buf = [0u8; ANSWER_ROOM];
+            let mut text = [0u8; MOST_SHOWN];
             let bytes = around::bytes_at(&arrived, desk.got);
-            let seen = witness::see(
-                kept,
-                &mut frame,
-                &mut last,
-                &mut given,
-                &mut display,
-                bytes,
-                desk.place,
-            );
+            let at = desk.place;
+            let seen = see(kept, &mut frame, &mut last, &mut buf, &mut text, bytes, at);
             let after = seen.kept;
             let call = seen.call;
             let reason = seen.reason;
             let shows = seen.shows;
             kept = after;
             tell::call(call, seen.number, seen.taken, reason);
-            tell::shows(shows, &display);
-            desk = desk::heard(desk, call, seen.taken, &given, seen.count, &mut back);
+            tell::shows(shows, &text);
+            desk = desk::heard(desk, call, seen.taken, &buf, seen.count, &mut back);
             continue;
         }
         desk = around::next(desk, &mut sent, &mut answer, &mut out, &mut arrived, &back);

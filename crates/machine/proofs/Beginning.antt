@@ -8,21 +8,18 @@ use native.Mathlib.Omega.{arith}
 use lib.ListN.{length, take, drop, length-drop, drop-of-length-le}
 use Rattle.display.specs.Display.{shownBy, displayOf, displayed}
 use Rattle.display.specs.declared.Display.{Display}
-use Rattle.display.specs.declared.Display.the-variants.{Stays}
 use Rattle.kinds.specs.declared.Parsed.{Parsed}
-use Rattle.kinds.specs.declared.Parsed.the-variants.{Unknown}
 use Rattle.command.specs.Commands.{parsedOf}
-use Rattle.sheet.specs.Sheet.{blank}
-use Rattle.sheet.specs.declared.Line.{Line}
 use Rattle.sheet.specs.declared.Search.{Search}
 use Rattle.books.specs.declared.Books.{Books}
 use Rattle.line.specs.Listening.{listenedTo, frameBehind}
 use Rattle.line.specs.declared.Call.{Call}
-use Rattle.line.specs.declared.Call.the-variants.{Quiet, Order}
+use Rattle.line.specs.declared.Call.the-variants.{Order}
 use Rattle.line.specs.declared.Listened.{Listened}
 use Rattle.carrying.specs.Carrying.{searchIn}
 use Rattle.machine.specs.Beginning.{longEnough, asking, textsBy, askedOf, begunBy, begunWith, notBegun, FirstHalf, beginning}
 use Rattle.machine.specs.declared.Asked.{Asked}
+use Rattle.machine.specs.declared.Begun.{Begun}
 use Rattle.machine.specs.declared.Device.{Device}
 use Rattle.machine.proofs.Working.{take-min, take-all}
 
@@ -58,16 +55,9 @@ module _ (d : Device) (frame display : List ℕ) (room lines : ℕ) (bytes : Lis
   abbrev first : Bool → FirstHalf
   first long = cond long (begunWith (d .books) listened (frameBehind (d .line) frame bytes) display) (record { begun = notBegun d; frame = frame; display = display })
 
-  abbrev unbegun : Line → FirstHalf
-  unbegun l =
-      record {
-        begun = record { device = d; call = Quiet; taken = 0; parsed = Unknown; lines = 0; wanted = l; shows = Stays; enough = false };
-        frame = frame;
-        display = display;
-      }
-
-  pub too-little : (l : Line) → l ≡ blank → longEnough room lines (length display) ≡ false → unbegun l ≡ beginning d frame display room lines bytes
-  too-little l el e = ap unbegun el ∙ sym (ap first e)
+  pub too-little : (g : Begun) → g ≡ notBegun d → longEnough room lines (length display) ≡ false
+      → record { begun = g; frame = frame; display = display } ≡ beginning d frame display room lines bytes
+  too-little g eg e = ap (λ (z : Begun). record { begun = z; frame = frame; display = display }) eg ∙ sym (ap first e)
 
   pub heard-first : (x : Listened) (frame' display' : List ℕ) (q : Asked) → longEnough room lines (length display) ≡ true → x ≡ listened → frame' ≡ frameBehind (d .line) frame bytes
       → q ≡ askedOf (d .books) (x .call) frame' → display' ≡ displayed display (textsBy (x .call) frame')

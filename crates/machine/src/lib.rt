@@ -15,7 +15,7 @@ ghost use mathlib.Core.Path.{_≡_};
 ghost use lib.ListN.{length, drop};
 ghost use Rattle.display.specs.Display.{displayed};
 ghost use Rattle.machine.specs.Device.{freshFields};
-ghost use Rattle.machine.specs.Beginning.{longEnough, asksNothing, textsBy, askedOf, beginning};
+ghost use Rattle.machine.specs.Beginning.{longEnough, asksNothing, textsBy, askedOf, notBegun, beginning};
 
 // What a device holds by value; its two arrays and the sheet are lent with every call, as it left them.
 pub struct Device {
@@ -81,16 +81,7 @@ pub fn begin(
     ensures { λ r. ⌜ record { begun = r; frame = now (frame .exit); display = now (display .exit) } ≡ beginning device (now (frame .entry)) (now (display .entry)) room lines (drop from (now (bytes .entry))) ⌝ }
 {
     if !is_enough(room, lines, display.len()) {
-        return Begun {
-            device,
-            call: Call::Quiet,
-            taken: 0,
-            parsed: Parsed::Unknown,
-            lines: 0,
-            wanted: sheet::blank_line(),
-            shows: Display::Stays,
-            enough: false,
-        };
+        return not_begun(device);
     }
     let line = device.line;
     let books = device.books;
@@ -112,6 +103,22 @@ pub fn begin(
         wanted,
         shows,
         enough: true,
+    }
+}
+
+fn not_begun(device: Device) -> Begun
+    ensures { λ r. ⌜ r ≡ notBegun device ⌝ }
+{
+    let wanted = sheet::blank_line();
+    Begun {
+        device,
+        call: Call::Quiet,
+        taken: 0,
+        parsed: Parsed::Unknown,
+        lines: 0,
+        wanted,
+        shows: Display::Stays,
+        enough: false,
     }
 }
 

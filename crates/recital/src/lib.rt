@@ -4,6 +4,7 @@ use display::MOST_SHOWN;
 use reader::FRAME_ROOM;
 use sentences::front;
 use wire::ANSWER_ROOM;
+use witness::see;
 
 // As many bytes are read at once, if they are there.
 const PART_ROOM: usize = 4096;
@@ -31,23 +32,15 @@ pub fn tell(fd: i32, html: bool) {
             return;
         }
         let mut buf = [0u8; ANSWER_ROOM];
-        let mut display = [0u8; MOST_SHOWN];
+        let mut text = [0u8; MOST_SHOWN];
         let read = part(&bytes, span.count);
-        let seen = witness::see(
-            kept,
-            &mut frame,
-            &mut last,
-            &mut buf,
-            &mut display,
-            read,
-            span.from,
-        );
+        let at = span.from;
+        let seen = see(kept, &mut frame, &mut last, &mut buf, &mut text, read, at);
         kept = seen.kept;
         let call = seen.call;
         let reason = seen.reason;
         let shows = seen.shows;
         let taken = taken_of(&bytes, span, seen.taken);
-        let given = front(&buf, seen.count);
         story::call(
             html,
             trail,
@@ -56,9 +49,9 @@ pub fn tell(fd: i32, html: bool) {
             call,
             seen.number,
             reason,
-            given,
+            front(&buf, seen.count),
             shows,
-            &display,
+            &text,
         );
         trail = trail::follow(trail, &mut shadow, taken);
         span = behind(span, seen.taken);

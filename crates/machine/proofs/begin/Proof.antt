@@ -12,7 +12,7 @@ returns : tie.Need-returns
 returns c =
     let asked = c .before .before in
     let a = asked .before .before .before .args in
-    too-little (a .device) (now (a .frame)) (now (a .display)) (a .room) (a .lines) (drop (a .from) (now (a .bytes))) (c .blank-line .result) (c .blank-line .ensures) (sym (asked .is-enough .ensures) ∙ not-true _ (c .before .if1 .taken))
+    too-little (a .device) (now (a .frame)) (now (a .display)) (a .room) (a .lines) (drop (a .from) (now (a .bytes))) (c .not-begun .result) (c .not-begun .ensures) (sym (asked .is-enough .ensures) ∙ not-true _ (c .before .if1 .taken))
 
 returns-2 : tie.Need-returns-2
 returns-2 c =
