@@ -5,33 +5,27 @@ mod tell;
 
 use libc::STDERR_FILENO;
 use reader::FRAME_ROOM;
-use writing::words::is;
+use wishes::Errand;
 
 fn main() {
-    let words = os::arg_count();
-    if words == 3 {
-        if named(1, b"-l") {
-            open(2, false);
-            return;
-        }
+    let errand = arguments();
+    if !errand.fits {
+        io::write_all(
+            STDERR_FILENO,
+            b"error: usage: cashier [-k] -l LINE <SCRIPT\n",
+        );
+        return;
     }
-    if words == 4 {
-        if named(1, b"-k") & named(2, b"-l") {
-            open(3, true);
-            return;
-        }
-    }
-    io::write_all(
-        STDERR_FILENO,
-        b"error: usage: cashier [-k] -l LINE <SCRIPT\n",
-    );
+    open(errand.line, errand.keeps);
 }
 
-// Whether an argument is this word.
-fn named(i: usize, word: &[u8]) -> bool {
-    let mut buf = [0u8; 8];
-    let n = os::arg(i, &mut buf);
-    is(&buf[..n], word)
+// An option has two letters: of a longer argument as much is looked at as shows that it is none.
+fn arguments() -> Errand {
+    let mut first = [0u8; 8];
+    let mut second = [0u8; 8];
+    let n = os::arg(1, &mut first);
+    let m = os::arg(2, &mut second);
+    wishes::errand_of(os::arg_count(), &first[..n], &second[..m])
 }
 
 // The line that an argument names.
