@@ -8,6 +8,7 @@ use lib.Dec.{eqb}
 use borrow.Author.Tests.{eq-eqb, ne-eqb, eqb-true}
 use Rattle.text.specs.Parts.{has}
 use Rattle.display.specs.Display.{plainOf, canShow, shownBy}
+use Rattle.kinds.specs.declared.Command.{Command}
 use Rattle.kinds.specs.declared.Command.the-variants.{ShowText}
 use Rattle.kinds.specs.declared.Parsed.{Parsed}
 use Rattle.kinds.specs.declared.Parsed.the-variants.{Read, Syntax}
@@ -24,8 +25,17 @@ module _ (code : ℕ) (s : List ℕ) where
   pub unmarked : (code ≡ 100 → ⊥) → has 0x10 s ≡ false → formOf code s ≡ parsedOf code s
   unmarked e f = sym (ap (λ z. by z (has 0x10 s)) (ne-eqb code 100 e) ∙ ap (by false) f)
 
-  pub marked : (code ≡ 100 → ⊥) → has 0x10 s ≡ true → notMarked (formOf code s) ≡ parsedOf code s
-  marked e f = sym (ap (λ z. by z (has 0x10 s)) (ne-eqb code 100 e) ∙ ap (by false) f)
+  -- 10h in data of its command's form
+  pub marked : (c : Command) → (code ≡ 100 → ⊥) → has 0x10 s ≡ true → formOf code s ≡ Read c → Syntax ≡ parsedOf code s
+  marked c e f r = sym (ap (λ z. by z (has 0x10 s)) (ne-eqb code 100 e) ∙ ap (by false) f ∙ ap notMarked r)
+
+  -- in data of no form, and of no command, it is not looked for
+  pub formless : (p : Parsed) → p ≡ formOf code s → notMarked p ≡ p → p ≡ parsedOf code s
+  formless p e stays = e ∙ sym (go (not (eqb code 100) && has 0x10 s))
+    where
+      go : (b : Bool) → cond b (notMarked (formOf code s)) (formOf code s) ≡ formOf code s
+      go true = ap notMarked (sym e) ∙ stays ∙ e
+      go false = refl
 
 -- a command shows nothing, or it is 100 and is read
 pub shown-or-not : (code : ℕ) (s : List ℕ) → (shownBy code s ≡ []) ⊎ (parsedOf code s ≡ Read ShowText)

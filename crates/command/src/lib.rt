@@ -3,14 +3,15 @@ use kinds::Command;
 use kinds::Parsed;
 use kinds::plain;
 ghost use mathlib.Core.Path.{_≡_};
-ghost use Rattle.command.specs.Commands.{formOf, notMarked, parsedOf, firstText, secondText};
+ghost use Rattle.command.specs.Commands.{formOf, parsedOf, firstText, secondText};
 
 // Of 100, whose data alone may hold 10h.
 const SHOW: u8 = 100;
 
 const MARK: u8 = 0x10;
 
-// Any command: its kind with its fields; or 1, where the data is not of its form; or 2, where CMD is none of the fifteen.
+// Any command: its kind with its fields; or 1, where the data is not of its form; or 2, where CMD is none of the fifteen. Only in data of some
+// form is 10h looked for: long data of an unknown command costs nothing here.
 pub fn parse(code: u8, bytes: &[u8]) -> Parsed
     ensures { λ r. ⌜ r ≡ parsedOf code (now (bytes .entry)) ⌝ }
 {
@@ -18,20 +19,15 @@ pub fn parse(code: u8, bytes: &[u8]) -> Parsed
     if code == SHOW {
         return parsed;
     }
-    if text::find(bytes, MARK) == bytes.len() {
-        return parsed;
-    }
-    not_marked(parsed)
-}
-
-// What the data holds makes a known command 1.
-fn not_marked(parsed: Parsed) -> Parsed
-    ensures { λ r. ⌜ r ≡ notMarked parsed ⌝ }
-{
     match parsed {
-        Parsed::Read(_) => Parsed::Syntax,
-        Parsed::Syntax => Parsed::Syntax,
-        Parsed::Unknown => Parsed::Unknown,
+        Parsed::Read(_) => {
+            if text::find(bytes, MARK) == bytes.len() {
+                return parsed;
+            }
+            Parsed::Syntax
+        }
+        Parsed::Syntax => parsed,
+        Parsed::Unknown => parsed,
     }
 }
 
