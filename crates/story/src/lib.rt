@@ -8,7 +8,6 @@ use line::Call;
 use pages::put_end;
 use reader::FRAME_ROOM;
 use reasons::Reason;
-use sentences::front;
 use sentences::put;
 use trail::Trail;
 ghost use Rattle.sentences.specs.Put.{Put};
@@ -94,7 +93,7 @@ fn put_order(
     ensures { λ r. ⌜ Put (now (buf .entry)) at (orderText html trail (now (shadow .entry)) byte count number kind reason (now (given .entry)) shows (now (display .entry))) (now (buf .exit)) r ⌝ }
 {
     let code = shadow[2];
-    let content = front(&shadow[3..], count);
+    let content = passages::data_of(shadow, count);
     let whole = passages::put_whole(buf, at, html, kind, trail, shadow, byte);
     let asked = passages::put_asked(buf, whole, html, code, content);
     let reply = passages::put_reply(buf, asked, html, number);

@@ -15,6 +15,8 @@ use reasons::Reason;
 use sentences::front;
 use sentences::put;
 use trail::Trail;
+ghost use mathlib.Core.Path.{_≡_};
+ghost use lib.ListN.{take, drop};
 ghost use Rattle.sentences.specs.Put.{Put};
 ghost use Rattle.pages.specs.Pages.{headed};
 ghost use Rattle.words.specs.Names.{commandWord};
@@ -100,6 +102,16 @@ fn put_names(buf: &mut [u8], at: usize, html: bool, seq: u8, code: u8) -> usize
         value: number,
     };
     put_item(buf, next, html, item)
+}
+
+// The data behind LEN, SEQ and CMD.
+pub fn data_of(shadow: &[u8], count: usize) -> &[u8]
+    ensures { λ r. ⌜ now r ≡ take count (drop 3 (now (shadow .entry))) ⌝ }
+{
+    if shadow.len() < 3 {
+        return &shadow[..0];
+    }
+    front(&shadow[3..], count)
 }
 
 // The data, its texts, and what else it is read as.
