@@ -1,8 +1,9 @@
+-- The loop's invariant says nothing: of what is written no contract speaks; the loop ends because its turns are counted.
 use Prim.Native.Nat.{_≤_}
 use native.Mathlib.Omega.{arith}
 use borrow.Author.Needs.{needs}
-use Rattle.recital.proofs.tell.Statement.{statement}
-use Rattle.recital.proofs.tell.Tie as tie
+use Rattle.explain.proofs.recital.tell.Statement.{statement}
+use Rattle.explain.proofs.recital.tell.Tie as tie
 
 abbrev Inv-loop : tie.InvT-loop
 Inv-loop fd html bytes₀ frame₀ last₀ shadow₀ kept₀ trail₀ span₀ turns₀ bytes frame last shadow kept trail span turns = turns ≤ turns
@@ -12,15 +13,17 @@ abbrev μ-loop : tie.MeasureT-loop
 
 sub-turns : tie.Need-sub-turns Inv-loop μ-loop
 sub-turns c =
-    let told = c .before .before .before .before .before .before .before .before in
-    let lent = told .before .before .before .before .before .before .before .before in
-    omega (arith, lent .before .before .before .before .before .before .before .before .loop-test .taken)
+    let taken = c .before .before .before .before .before .before .before in
+    let seen = taken .before .before .before .before .before in
+    let more = seen .before .before .before .before .before .before .before in
+    omega (arith, more .before .before .before .before .loop-test .taken)
 
 loop-less : tie.Need-loop-less Inv-loop μ-loop
 loop-less c =
-    let told = c .before .before .before .before .before .before .before .before in
-    let lent = told .before .before .before .before .before .before .before .before in
-    omega (arith, lent .before .before .before .before .before .before .before .before .loop-test .taken)
+    let taken = c .before .before .before .before .before .before .before in
+    let seen = taken .before .before .before .before .before in
+    let more = seen .before .before .before .before .before .before .before in
+    omega (arith, more .before .before .before .before .loop-test .taken)
 
 pub tell-spec : {M : Type 1} → statement M
 tell-spec =
@@ -40,9 +43,6 @@ tell-spec =
     (λ c. search needs)
     (λ c κs. search needs)
     (λ c κs. search needs)
-    (λ c. search needs)
-    (λ c κs. search needs)
-    (λ c. search needs)
     (λ c κs. search needs)
     (λ c κs. search needs)
     (λ c κs. search needs)

@@ -1,10 +1,17 @@
 // A whole recording told, part by part and call by call.
-// Part of `explain`, in a room of its own because of its check's time; what it writes no contract can say.
 use display::MOST_SHOWN;
+use libc::STDOUT_FILENO;
 use reader::FRAME_ROOM;
 use sentences::front;
+use trail::Trail;
 use wire::ANSWER_ROOM;
+use witness::Seen;
 use witness::see;
+
+// More than the longest telling of a call. In a page a line has 28 bytes of marks, a byte has up to five letters. So the frame takes at most 804
+// bytes; its data as a whole and its texts 2,700; an answer of 217 bytes 685, and its data, were it nothing but commas, 6,300; 42 status bits
+// 3,600; all other lines 1,600.
+const TELLING_ROOM: usize = 16384;
 
 // As many bytes are read at once, if they are there.
 const PART_ROOM: usize = 4096;
@@ -28,7 +35,7 @@ pub fn tell(fd: i32, html: bool) {
     while turns > 0 {
         span = refill(fd, &mut bytes, span);
         if span.count == 0 {
-            story::ends(html, trail, &shadow);
+            tell_end(html, trail, &shadow);
             return;
         }
         let mut buf = [0u8; ANSWER_ROOM];
@@ -37,26 +44,40 @@ pub fn tell(fd: i32, html: bool) {
         let at = span.from;
         let seen = see(kept, &mut frame, &mut last, &mut buf, &mut text, read, at);
         kept = seen.kept;
-        let call = seen.call;
-        let reason = seen.reason;
-        let shows = seen.shows;
         let taken = taken_of(&bytes, span, seen.taken);
-        story::call(
-            html,
-            trail,
-            &shadow,
-            taken,
-            call,
-            seen.number,
-            reason,
-            front(&buf, seen.count),
-            shows,
-            &text,
-        );
+        tell_call(html, trail, &shadow, taken, seen, &buf, &text);
         trail = trail::follow(trail, &mut shadow, taken);
         span = behind(span, seen.taken);
         turns -= 1;
     }
+}
+
+// What is told of a call, written at once.
+fn tell_call(
+    html: bool,
+    trail: Trail,
+    shadow: &[u8; FRAME_ROOM],
+    taken: &[u8],
+    seen: Seen,
+    buf: &[u8; ANSWER_ROOM],
+    display: &[u8; MOST_SHOWN],
+) {
+    let call = seen.call;
+    let number = seen.number;
+    let reason = seen.reason;
+    let shows = seen.shows;
+    let given = front(buf, seen.count);
+    let mut text = [0u8; TELLING_ROOM];
+    let n = story::put_call(
+        &mut text, 0, html, trail, shadow, taken, call, number, reason, given, shows, display,
+    );
+    io::write_all(STDOUT_FILENO, front(&text, n));
+}
+
+fn tell_end(html: bool, trail: Trail, shadow: &[u8; FRAME_ROOM]) {
+    let mut text = [0u8; TELLING_ROOM];
+    let n = story::put_ends(&mut text, 0, html, trail, shadow);
+    io::write_all(STDOUT_FILENO, front(&text, n));
 }
 
 // The bytes that are not yet heard; where there are none, as much of the recording as is there: nothing at its end, or where it can't be read.
