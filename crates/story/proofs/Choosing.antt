@@ -19,7 +19,7 @@ use Rattle.items.specs.declared.Four.{Four}
 use Rattle.items.specs.declared.Kind.{Kind}
 use Rattle.items.specs.declared.Kind.the-variants.{Cut}
 use Rattle.pages.specs.Pages.{ended}
-use Rattle.story.specs.Passages.{skippedText}
+use Rattle.passages.specs.Passages.{skippedText}
 use Rattle.story.specs.Story.{partText, orderText, toldText, callText, endsText}
 
 -- the end of a recording, outside a frame and in one

@@ -1,2 +1,1 @@
-pub mod Passages
 pub mod Story

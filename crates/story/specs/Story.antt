@@ -19,7 +19,7 @@ use Rattle.items.specs.declared.Kind.the-variants.{Broken, Repeat, Cut}
 use Rattle.pages.specs.Pages.{headed, ended}
 use Rattle.entries.specs.Entries.{fourText}
 use Rattle.unfolding.specs.Answers.{givenText, answerText}
-use Rattle.story.specs.Passages.{skippedText, frameText, wholeText, askedText, replyText, reasonText, shownText}
+use Rattle.passages.specs.Passages.{skippedText, frameText, wholeText, askedText, replyText, reasonText, shownText}
 
 -- PROTOCOL 1.8: a frame that is not whole: the bytes that came, and what was expected
 abbrev pub partText : (html : Bool) → Kind → Trail → (shadow : List ℕ) → Four → List ℕ

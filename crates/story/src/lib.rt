@@ -1,6 +1,5 @@
 // What is told of a call of the device, and at the end of the recording, put into a lent buffer (EXPLAIN 2). Each function says the place behind
 // its text, or the buffer's end.
-mod passages;
 use display::Display;
 use items::Four;
 use items::Kind;

@@ -2,7 +2,7 @@ use mathlib.Core.Path.{ap}
 use denote.Ref.{now}
 use lib.ListN.{getD}
 use Rattle.sentences.proofs.Putting.{put-as, put-then}
-use Rattle.story.specs.Passages.{askedText}
+use Rattle.passages.specs.Passages.{askedText}
 use borrow.Author.Needs.{needs}
 use Rattle.story.proofs.put_order.Statement.{statement}
 use Rattle.story.proofs.put_order.Tie as tie

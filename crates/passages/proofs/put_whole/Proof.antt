@@ -1,7 +1,7 @@
 use Rattle.sentences.proofs.Putting.{put-then, put-length}
 use borrow.Author.Needs.{needs}
-use Rattle.story.proofs.passages.put_whole.Statement.{statement}
-use Rattle.story.proofs.passages.put_whole.Tie as tie
+use Rattle.passages.proofs.put_whole.Statement.{statement}
+use Rattle.passages.proofs.put_whole.Tie as tie
 
 returns : tie.Need-returns
 returns c =

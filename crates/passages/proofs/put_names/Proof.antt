@@ -1,7 +1,7 @@
 use Rattle.sentences.proofs.Putting.{put-then}
 use borrow.Author.Needs.{needs}
-use Rattle.story.proofs.passages.put_names.Statement.{statement}
-use Rattle.story.proofs.passages.put_names.Tie as tie
+use Rattle.passages.proofs.put_names.Statement.{statement}
+use Rattle.passages.proofs.put_names.Tie as tie
 
 returns : tie.Need-returns
 returns c =

@@ -4,8 +4,8 @@ use Rattle.words.specs.Names.{commandWord}
 use Rattle.sentences.proofs.Putting.{put-as}
 use Rattle.pages.specs.Pages.{headed}
 use borrow.Author.Needs.{needs}
-use Rattle.story.proofs.passages.put_command.Statement.{statement}
-use Rattle.story.proofs.passages.put_command.Tie as tie
+use Rattle.passages.proofs.put_command.Statement.{statement}
+use Rattle.passages.proofs.put_command.Tie as tie
 
 returns : tie.Need-returns
 returns c =

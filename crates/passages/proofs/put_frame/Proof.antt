@@ -5,8 +5,8 @@ use Rattle.items.specs.declared.Label.the-variants.{Frame}
 use Rattle.sentences.proofs.Putting.{put-as}
 use Rattle.entries.specs.Entries.{bytesText}
 use borrow.Author.Needs.{needs}
-use Rattle.story.proofs.passages.put_frame.Statement.{statement}
-use Rattle.story.proofs.passages.put_frame.Tie as tie
+use Rattle.passages.proofs.put_frame.Statement.{statement}
+use Rattle.passages.proofs.put_frame.Tie as tie
 
 returns : tie.Need-returns
 returns c =

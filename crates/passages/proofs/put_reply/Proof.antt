@@ -7,8 +7,8 @@ use Rattle.words.specs.Names.{replyWord}
 use Rattle.sentences.proofs.Putting.{put-as}
 use Rattle.entries.specs.Entries.{saidText}
 use borrow.Author.Needs.{needs}
-use Rattle.story.proofs.passages.put_reply.Statement.{statement}
-use Rattle.story.proofs.passages.put_reply.Tie as tie
+use Rattle.passages.proofs.put_reply.Statement.{statement}
+use Rattle.passages.proofs.put_reply.Tie as tie
 
 returns : tie.Need-returns
 returns c =

@@ -4,8 +4,8 @@ use Rattle.items.specs.declared.Label.the-variants.{Text, SecondText}
 use Rattle.sentences.proofs.Putting.{put-as, put-then, put-length}
 use Rattle.entries.specs.Entries.{fourText, someText}
 use borrow.Author.Needs.{needs}
-use Rattle.story.proofs.passages.put_asked.Statement.{statement}
-use Rattle.story.proofs.passages.put_asked.Tie as tie
+use Rattle.passages.proofs.put_asked.Statement.{statement}
+use Rattle.passages.proofs.put_asked.Tie as tie
 
 returns : tie.Need-returns
 returns c =

@@ -1,4 +1,4 @@
-// The parts of what is told of a frame.
+// The parts of what is told of a frame, put into a lent buffer (EXPLAIN 2). Each function says the place behind its text, or the buffer's end.
 use display::Display;
 use entries::put_bytes;
 use entries::put_four;
@@ -20,7 +20,7 @@ ghost use lib.ListN.{take, drop};
 ghost use Rattle.sentences.specs.Put.{Put};
 ghost use Rattle.pages.specs.Pages.{headed};
 ghost use Rattle.words.specs.Names.{commandWord};
-ghost use Rattle.story.specs.Passages.{skippedText, frameText, namesText, wholeText, askedText, replyText, reasonText, shownText};
+ghost use Rattle.passages.specs.Passages.{skippedText, frameText, namesText, wholeText, askedText, replyText, reasonText, shownText};
 
 // The bytes outside frames that end where the next frame begins, if there are any.
 pub fn put_skipped(buf: &mut [u8], at: usize, html: bool, end: u64, count: u64) -> usize

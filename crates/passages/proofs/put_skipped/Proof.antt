@@ -5,8 +5,8 @@ use Rattle.items.specs.declared.Kind.the-variants.{Skipped}
 use Rattle.sentences.proofs.Putting.{put-as, put-then}
 use Rattle.pages.specs.Pages.{headed}
 use borrow.Author.Needs.{needs}
-use Rattle.story.proofs.passages.put_skipped.Statement.{statement}
-use Rattle.story.proofs.passages.put_skipped.Tie as tie
+use Rattle.passages.proofs.put_skipped.Statement.{statement}
+use Rattle.passages.proofs.put_skipped.Tie as tie
 
 returns : tie.Need-returns
 returns c =

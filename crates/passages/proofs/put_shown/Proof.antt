@@ -4,10 +4,10 @@ use Rattle.items.specs.declared.Label.the-variants.{OnDisplay}
 use Rattle.captions.specs.Captions.{labelWord}
 use Rattle.sentences.proofs.Putting.{put-as}
 use Rattle.entries.specs.Entries.{lettersText}
-use Rattle.story.specs.Passages.{shownText}
+use Rattle.passages.specs.Passages.{shownText}
 use borrow.Author.Needs.{needs}
-use Rattle.story.proofs.passages.put_shown.Statement.{statement}
-use Rattle.story.proofs.passages.put_shown.Tie as tie
+use Rattle.passages.proofs.put_shown.Statement.{statement}
+use Rattle.passages.proofs.put_shown.Tie as tie
 
 returns : tie.Need-returns
 returns c =

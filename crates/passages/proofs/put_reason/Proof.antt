@@ -8,8 +8,8 @@ use Rattle.words.specs.Names.{reasonWord}
 use Rattle.sentences.proofs.Putting.{put-as}
 use Rattle.entries.specs.Entries.{saidText}
 use borrow.Author.Needs.{needs}
-use Rattle.story.proofs.passages.put_reason.Statement.{statement}
-use Rattle.story.proofs.passages.put_reason.Tie as tie
+use Rattle.passages.proofs.put_reason.Statement.{statement}
+use Rattle.passages.proofs.put_reason.Tie as tie
 
 returns : tie.Need-returns
 returns c =

@@ -7,8 +7,8 @@ use lib.ListN.{length, take, drop, drop-of-length-le}
 use lib.Seq.{take-nil}
 use Rattle.text.proofs.Cutting.{to-end}
 use borrow.Author.Needs.{needs}
-use Rattle.story.proofs.passages.data_of.Statement.{statement}
-use Rattle.story.proofs.passages.data_of.Tie as tie
+use Rattle.passages.proofs.data_of.Statement.{statement}
+use Rattle.passages.proofs.data_of.Tie as tie
 
 returns : tie.Need-returns
 returns c =
