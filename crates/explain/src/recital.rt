@@ -69,7 +69,18 @@ fn tell_call(
     let given = front(buf, seen.count);
     let mut text = [0u8; TELLING_ROOM];
     let n = story::put_call(
-        &mut text, 0, html, trail, shadow, taken, call, number, reason, given, shows, display,
+        &mut text,
+        0,
+        html,
+        trail,
+        shadow,
+        taken,
+        call,
+        number,
+        reason,
+        given,
+        shows,
+        display,
     );
     io::write_all(STDOUT_FILENO, front(&text, n));
 }

@@ -74,14 +74,7 @@ pub fn put_whole(
 }
 
 // The heading by the command's word.
-fn put_command(
-    buf: &mut [u8],
-    at: usize,
-    html: bool,
-    kind: Kind,
-    offset: u64,
-    code: u8,
-) -> usize
+fn put_command(buf: &mut [u8], at: usize, html: bool, kind: Kind, offset: u64, code: u8) -> usize
     ensures { λ r. ⌜ Put (now (buf .entry)) at (headed html kind offset (commandWord code)) (now (buf .exit)) r ⌝ }
 {
     let name = words::command_word(code);

@@ -37,7 +37,18 @@ pub fn put_call(
     let before = trail::follow(trail, &mut near, &taken[..n - 1]);
     let byte = taken[n - 1];
     put_told(
-        buf, at, html, before, &near, byte, call, number, reason, given, shows, display,
+        buf,
+        at,
+        html,
+        before,
+        &near,
+        byte,
+        call,
+        number,
+        reason,
+        given,
+        shows,
+        display,
     )
 }
 
@@ -68,7 +79,19 @@ fn put_told(
             code: _,
             count,
         } => put_order(
-            buf, at, html, trail, shadow, byte, count, number, kind, reason, given, shows, display,
+            buf,
+            at,
+            html,
+            trail,
+            shadow,
+            byte,
+            count,
+            number,
+            kind,
+            reason,
+            given,
+            shows,
+            display,
         ),
     }
 }
@@ -161,7 +184,13 @@ fn put_repeated(
 }
 
 // At the end of the recording: bytes outside frames, or a frame that it ends in.
-pub fn put_ends(buf: &mut [u8], at: usize, html: bool, trail: Trail, shadow: &[u8; FRAME_ROOM]) -> usize
+pub fn put_ends(
+    buf: &mut [u8],
+    at: usize,
+    html: bool,
+    trail: Trail,
+    shadow: &[u8; FRAME_ROOM],
+) -> usize
     ensures { λ r. ⌜ Put (now (buf .entry)) at (endsText html trail (now (shadow .entry))) (now (buf .exit)) r ⌝ }
 {
     let reader = trail.reader;

@@ -38,7 +38,7 @@ module _ (html : Bool) (code : ℕ) where
       let more : length l - i ≡ suc (length l - (i + 1)) = omega arith in
       let some : 0 < length (drop from l) = omega (arith, length-drop from l) in
       let rest : past 0x2C (drop from l) ≡ drop (from + (length field + 1)) l =
-            ap (λ k. drop (k + 1) (drop from l)) (sym (field-length (drop from l) field e)) ∙ drop-drop (length field + 1) from l
+      ap (λ k. drop (k + 1) (drop from l)) (sym (field-length (drop from l) field e)) ∙ drop-drop (length field + 1) from l
       in
       ap (λ k. fieldsText k html code i (drop from l)) more
       ∙ fields-step (length l - (i + 1)) i (drop from l) some

@@ -47,9 +47,11 @@ loop-again c =
     let l = f .before .before in
     let a = l .before .before .before .before .args in
     let content = now (a .content) in
-    let within = field-within content (l .loop .from) _ (f .field-at .ensures) (omega arith) in
-    (omega (arith, within), omega (arith, within),
-      rest-turn (l .loop .inv .2) _ _ (fields-next (a .html) (a .code) content (l .loop .i) (l .loop .from) _ (omega arith) (omega arith) (f .field-at .ensures)) (p .put-named .ensures))
+    let within = field-within content (l .loop .from) _ (f .field-at .ensures) (omega arith) in (
+      omega (arith, within),
+      omega (arith, within),
+      rest-turn (l .loop .inv .2) _ _ (fields-next (a .html) (a .code) content (l .loop .i) (l .loop .from) _ (omega arith) (omega arith) (f .field-at .ensures)) (p .put-named .ensures),
+    )
 
 same-length : tie.Need-same-length Inv-loop μ-loop
 same-length c = c .before .loop .inv .2 .same
