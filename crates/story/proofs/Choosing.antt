@@ -3,24 +3,20 @@ use Prim.Native.Nat.{ℕ, _-_}
 use mathlib.Core.Path.{_≡_, sym, ap, _∙_}
 use mathlib.Core.Bool.{Bool, true, false, cond}
 use mathlib.Core.List.{List, [], _++_}
-use lib.Dec.{eqb}
 use lib.ListN.{length, take, getD}
 use borrow.Author.Tests.{eq-eqb, ne-eqb}
 use Rattle.display.specs.declared.Display.{Display}
 use Rattle.line.specs.declared.Call.{Call}
-use Rattle.line.specs.declared.Call.the-variants.{Order}
 use Rattle.reasons.specs.declared.Reason.{Reason}
 use Rattle.reader.specs.Fields.{placeOf}
 use Rattle.expecting.specs.Expecting.{expectedAt}
 use Rattle.trail.specs.Trails.{Followed, followed}
 use Rattle.trail.specs.declared.Trail.{Trail}
-use Rattle.items.specs.Items.{kindOf, cutItems}
-use Rattle.items.specs.declared.Four.{Four}
-use Rattle.items.specs.declared.Kind.{Kind}
+use Rattle.items.specs.Items.{cutItems}
 use Rattle.items.specs.declared.Kind.the-variants.{Cut}
 use Rattle.pages.specs.Pages.{ended}
 use Rattle.passages.specs.Passages.{skippedText}
-use Rattle.story.specs.Story.{partText, orderText, toldText, callText, endsText}
+use Rattle.story.specs.Story.{partText, toldText, callText, endsText}
 
 -- the end of a recording, outside a frame and in one
 module _ (html : Bool) (trail : Trail) (shadow : List ℕ) where
@@ -41,12 +37,6 @@ module _ (html : Bool) (number : ℕ) (reason : Reason) (given : List ℕ) (show
   pub told-by : (trail : Trail) (shadow : List ℕ) (byte : ℕ) {call known : Call} → call ≡ known
       → toldText html trail shadow byte known number reason given shows display ≡ toldText html trail shadow byte call number reason given shows display
   told-by trail shadow byte e = sym (ap (λ k. toldText html trail shadow byte k number reason given shows display) e)
-
-  pub order-by : (trail : Trail) (shadow : List ℕ) (byte seq code count : ℕ) (kind : Kind) {call : Call} → kind ≡ kindOf call number → call ≡ Order seq code count
-      → orderText html trail shadow byte count number kind reason given shows display ≡ toldText html trail shadow byte call number reason given shows display
-  order-by trail shadow byte seq code count kind e f =
-      ap (λ k. orderText html trail shadow byte count number k reason given shows display) (e ∙ ap (λ k. kindOf k number) f)
-      ∙ told-by trail shadow byte f
 
   module _ (trail : Trail) (shadow taken : List ℕ) (call : Call) where
     abbrev told : Followed → List ℕ

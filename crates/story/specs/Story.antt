@@ -42,9 +42,9 @@ repeatedText html trail shadow byte number given =
     wholeText html Repeat trail shadow byte ++ replyText html number ++ givenText html given ++ ended html
 
 -- PROTOCOL 1.11: an order with so many bytes of data: what was asked; the reply, and of a refusal the reason; the display; the answer
-abbrev pub orderText : (html : Bool) → Trail → (shadow : List ℕ) → (byte count number : ℕ) → Kind → Reason → (given : List ℕ) → Display → (display : List ℕ) → List ℕ
-orderText html trail shadow byte count number kind reason given shows display =
-    wholeText html kind trail shadow byte
+abbrev pub orderText : (html : Bool) → Trail → (shadow : List ℕ) → (byte count number : ℕ) → Reason → (given : List ℕ) → Display → (display : List ℕ) → List ℕ
+orderText html trail shadow byte count number reason given shows display =
+    wholeText html (kindOf (Order (getD shadow 1 0) (getD shadow 2 0) count) number) trail shadow byte
     ++ askedText html (getD shadow 2 0) (take count (drop 3 shadow))
     ++ replyText html number
     ++ reasonText html number reason
@@ -58,7 +58,7 @@ toldText html trail shadow byte Quiet number reason given shows display = []
 toldText html trail shadow byte Nak number reason given shows display = brokenText html trail shadow byte number
 toldText html trail shadow byte Again number reason given shows display = repeatedText html trail shadow byte number given
 toldText html trail shadow byte (Order seq code count) number reason given shows display =
-    orderText html trail shadow byte count number (kindOf (Order seq code count) number) reason given shows display
+    orderText html trail shadow byte count number reason given shows display
 
 -- EXPLAIN 2: a call took these bytes behind those of the trail, and the last of them brought it
 abbrev pub callText : (html : Bool) → Trail → (shadow taken : List ℕ) → Call → (number : ℕ) → Reason → (given : List ℕ) → Display → (display : List ℕ) → List ℕ

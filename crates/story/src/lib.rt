@@ -69,7 +69,6 @@ fn put_told(
 ) -> usize
     ensures { λ r. ⌜ Put (now (buf .entry)) at (toldText html trail (now (shadow .entry)) byte call number reason (now (given .entry)) shows (now (display .entry))) (now (buf .exit)) r ⌝ }
 {
-    let kind = items::kind_of(call, number);
     match call {
         Call::Quiet => put(buf, at, b""),
         Call::Nak => put_broken(buf, at, html, trail, shadow, byte, number),
@@ -87,7 +86,6 @@ fn put_told(
             byte,
             count,
             number,
-            kind,
             reason,
             given,
             shows,
@@ -106,15 +104,16 @@ fn put_order(
     byte: u8,
     count: usize,
     number: u64,
-    kind: Kind,
     reason: Reason,
     given: &[u8],
     shows: Display,
     display: &[u8],
 ) -> usize
-    ensures { λ r. ⌜ Put (now (buf .entry)) at (orderText html trail (now (shadow .entry)) byte count number kind reason (now (given .entry)) shows (now (display .entry))) (now (buf .exit)) r ⌝ }
+    ensures { λ r. ⌜ Put (now (buf .entry)) at (orderText html trail (now (shadow .entry)) byte count number reason (now (given .entry)) shows (now (display .entry))) (now (buf .exit)) r ⌝ }
 {
+    let seq = shadow[1];
     let code = shadow[2];
+    let kind = items::kind_of(Call::Order { seq, code, count }, number);
     let content = passages::data_of(shadow, count);
     let whole = passages::put_whole(buf, at, html, kind, trail, shadow, byte);
     let asked = passages::put_asked(buf, whole, html, code, content);

@@ -2,7 +2,7 @@ use mathlib.Core.Path.{ap}
 use denote.Ref.{now}
 use lib.ListN.{getD}
 use Rattle.sentences.proofs.Putting.{put-as, put-then}
-use Rattle.passages.specs.Passages.{askedText}
+use Rattle.passages.specs.Passages.{wholeText, askedText}
 use borrow.Author.Needs.{needs}
 use Rattle.story.proofs.put_order.Statement.{statement}
 use Rattle.story.proofs.put_order.Tie as tie
@@ -17,9 +17,11 @@ returns c =
     let asked = reply .before .before .before .before in
     let whole = asked .before .before .before .before in
     let d = whole .before .before in
-    let a = d .before .before .before .before .before .before .args in
+    let k = d .before .before in
+    let a = k .before .before .before .before .before .before .args in
+    let kind = put-as (whole .put-whole .ensures) (ap (λ k. wholeText (a .html) k (a .trail) (now (a .shadow)) (a .byte)) (k .kind-of .ensures)) in
     let content = put-as (asked .put-asked .ensures) (ap (askedText (a .html) (getD (now (a .shadow)) 2 0)) (d .data-of .ensures)) in
-    let replied = put-then (put-then (put-then (whole .put-whole .ensures) content) (reply .put-reply .ensures)) (why .put-reason .ensures) in
+    let replied = put-then (put-then (put-then kind content) (reply .put-reply .ensures)) (why .put-reason .ensures) in
     put-then (put-then (put-then replied (shown .put-shown .ensures)) (answer .put-answer .ensures)) (e .put-end .ensures)
 
 pub put-order-spec : {M : Type 1} → statement M
@@ -27,6 +29,8 @@ put-order-spec =
     tie.close
     (tie.spec
     (λ c. search needs)
+    (λ c. search needs)
+    (λ c κs. search needs)
     (λ c κs. search needs)
     (λ c κs. search needs)
     (λ c κs. search needs)
