@@ -1,7 +1,10 @@
 // A recording told for a class: each frame with its command and fields in words, what the device replied and why, its answer and status.
 // explain [-html] [RECORDING]; without a name the recording is standard input.
+mod recital;
+
 use libc::STDERR_FILENO;
 use libc::STDIN_FILENO;
+use libc::STDOUT_FILENO;
 use wishes::Wish;
 
 fn main() {
@@ -20,9 +23,9 @@ fn main() {
         );
         return;
     }
-    output::begin(wish.html);
+    begin(wish.html);
     recital::tell(fd, wish.html);
-    output::end(wish.html);
+    end(wish.html);
 }
 
 fn arguments() -> Wish {
@@ -39,4 +42,32 @@ fn opened(place: usize) -> i32 {
     let mut name = io::buffer();
     let n = os::arg(place, &mut name);
     os::open_read(&name[..n])
+}
+
+// What stands before and behind all frames of a page.
+fn begin(html: bool) {
+    if html {
+        io::write_all(
+            STDOUT_FILENO,
+            b"<!DOCTYPE html>\n<html lang=\"en\"><head><meta charset=\"utf-8\"><title>A recording explained</title>\n<style>\n\
+            body { font: 20px/1.45 sans-serif; max-width: 60em; margin: 1em auto; padding: 0 1em; color: #111; background: #fff }\n\
+            section { border-left: .5em solid #1b6e3c; padding-left: .8em; margin: 1.4em 0 }\n\
+            .refused { border-color: #b25400 }\n.broken { border-color: #b00020 }\n.repeat { border-color: #1f4e9e }\n\
+            .outside, .ends { border-color: #666; border-left-style: dashed }\n\
+            h2 { font-size: 1.15em; margin: 0 0 .3em; break-after: avoid }\n\
+            tr { break-inside: avoid }\n\
+            table { border-collapse: collapse; width: 100% }\n\
+            th, td { text-align: left; vertical-align: top; padding: .1em .6em .1em 0; border-bottom: 1px solid #ccc }\n\
+            th { width: 30%; font-weight: normal; color: #333 }\n\
+            td { font-family: monospace; overflow-wrap: anywhere }\n\
+            @media print { body { font-size: 10pt; margin: 0; padding: 0; max-width: none } section { margin: .8em 0 } }\n\
+            </style></head><body>\n<h1>A recording explained</h1>\n",
+        );
+    }
+}
+
+fn end(html: bool) {
+    if html {
+        io::write_all(STDOUT_FILENO, b"</body></html>\n");
+    }
 }

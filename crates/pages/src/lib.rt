@@ -1,7 +1,9 @@
 // The lines of a telling, as a text or as one page (HTML), put into a lent buffer one behind the other (EXPLAIN 2).
 use captions::put_kind;
+use captions::put_label;
 use captions::put_saying;
 use items::Kind;
+use items::Label;
 use items::Value;
 use sentences::put;
 use sentences::put_data;
@@ -12,6 +14,7 @@ use sentences::put_number;
 ghost use mathlib.Core.Bool.{cond};
 ghost use mathlib.Core.List.{[], _∷_};
 ghost use Rattle.sentences.specs.Put.{Put};
+ghost use Rattle.captions.specs.Captions.{labelWord};
 ghost use Rattle.pages.specs.Pages.{each, hexOf, pageLetter, shownAs, thousandths, bytesFrom, valueText, opened, closed, sectioned, namedBy, titled, headed, ended};
 
 // Bytes in hexadecimal, a space before each.
@@ -89,6 +92,15 @@ pub fn put_open(buf: &mut [u8], at: usize, html: bool, label: &[u8]) -> usize
 {
     let first = put_either(buf, at, html, b"<tr><th>", b"  ");
     let second = put(buf, first, label);
+    put_either(buf, second, html, b"</th><td>", b":")
+}
+
+// The same by a label that the library has.
+pub fn put_labelled(buf: &mut [u8], at: usize, html: bool, label: Label) -> usize
+    ensures { λ r. ⌜ Put (now (buf .entry)) at (opened html (labelWord label)) (now (buf .exit)) r ⌝ }
+{
+    let first = put_either(buf, at, html, b"<tr><th>", b"  ");
+    let second = put_label(buf, first, label);
     put_either(buf, second, html, b"</th><td>", b":")
 }
 

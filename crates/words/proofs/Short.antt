@@ -4,16 +4,18 @@ use mathlib.Core.Path.{_≡_, refl, sym, ap, _∙_}
 use mathlib.Core.Bool.{Bool, true, false, cond, _&&_}
 use mathlib.Core.List.{List, [], _∷_, _++_}
 use native.Mathlib.Omega.{arith}
-use lib.Dec.{leb, ltb}
+use lib.Dec.{leb, ltb, eqb}
 use lib.ListN.{length, take, drop, getD, replicate, length-replicate}
 use lib.Seq.{sets, sets-eq, take-append-seam}
 use borrow.Author.Tests.{leb-true}
 use Rattle.basics.proofs.Tests.{both}
 use Rattle.text.specs.Parts.{firstAt}
+use Rattle.letters.specs.Letters.{bytes}
 use Rattle.reasons.specs.declared.Reason.{Reason}
 use Rattle.words.specs.Words.{wordsOf}
 use Rattle.words.specs.declared.rows.Words.{Words}
 use Rattle.words.specs.Names.{codes, commandWords, commandWord, replyWords, replyWord, reasonWord, statusWords, statusWord}
+use Rattle.words.specs.Fields.{groups, counters, subtotal, closure, drawer, fieldWords, fieldWord, paidWord}
 use Rattle.words.specs.Private.{reasonPlace}
 use Rattle.words.proofs.Reasons.{table, told}
 
@@ -41,6 +43,35 @@ status-short byte bit = go (ltb bit 8 && ltb byte 6)
     go : (b : Bool) → length (cond b (getD statusWords (byte * 8 + bit) []) []) ≤ 64
     go true = row-short statusWords refl (byte * 8 + bit)
     go false = omega arith
+
+-- the table that a code chooses has short rows, as each of them has
+either : (b : Bool) (x y : List (List ℕ)) → short x ≡ true → short y ≡ true → short (cond b x y) ≡ true
+either true x y e f = e
+either false x y e f = f
+
+fields-short : (code : ℕ) → short (fieldWords code) ≡ true
+fields-short code =
+    either (eqb code 38) counters _ refl
+    (either (eqb code 39) counters _ refl
+    (either (eqb code 48) counters _ refl
+    (either (eqb code 51) subtotal _ refl
+    (either (eqb code 56) counters _ refl
+    (either (eqb code 65) groups _ refl
+    (either (eqb code 69) closure _ refl
+    (either (eqb code 70) drawer _ refl
+    (either (eqb code 97) groups _ refl
+    refl))))))))
+
+pub field-short : (code i : ℕ) → length (fieldWord code i) ≤ 64
+field-short code i = row-short (fieldWords code) (fields-short code) i
+
+pub paid-short : (mark : ℕ) → length (paidWord mark) ≤ 64
+paid-short mark = go (eqb mark 0x44) (eqb mark 0x52)
+  where
+    go : (left full : Bool) → length (cond left (bytes "left to pay") (cond full (bytes "paid in full; the change") (bytes ""))) ≤ 64
+    go true full = omega arith
+    go false true = omega arith
+    go false false = omega arith
 
 abbrev zeros : List ℕ
 zeros = replicate 64 0
