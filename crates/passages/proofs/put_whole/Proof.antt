@@ -1,4 +1,4 @@
-use Rattle.sentences.proofs.Putting.{put-then, put-length}
+use Rattle.sentences.proofs.Putting.{put-then}
 use borrow.Author.Needs.{needs}
 use Rattle.passages.proofs.put_whole.Statement.{statement}
 use Rattle.passages.proofs.put_whole.Tie as tie
