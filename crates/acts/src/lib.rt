@@ -25,7 +25,7 @@ fn act(books: Books, m: Match, view: View) -> Deed
     ensures { λ r. ⌜ r ≡ deedOf books m view ⌝ }
 {
     match view {
-        View::Opens(p) => fiscal::open_fiscal(books, p),
+        View::Opens => fiscal::open_fiscal(books),
         View::Sells(s) => sales::sell(books, m, s),
         View::Pays(p) => sales::pay(books, p),
         View::Closes => fiscal::close(books),

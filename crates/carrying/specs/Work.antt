@@ -1,6 +1,6 @@
 -- A command carried out in a lent buffer.
 use Prim.Native.Nat.{ℕ}
-use mathlib.Core.Bool.{cond}
+use mathlib.Core.Bool.{Bool, cond}
 use mathlib.Core.List.{List, _++_}
 use lib.Dec.{ltb}
 use lib.ListN.{length}
@@ -31,10 +31,10 @@ workDone b seq code d buffer =
     }
 
 -- PROTOCOL 2.4: with less than 217 bytes lent it is 7, and all stays
-abbrev pub worked : Books → Match → ℕ → ℕ → Parsed → List ℕ → Worked
-worked b m seq code p buffer =
+abbrev pub worked : Books → Match → ℕ → ℕ → (passes : Bool) → Parsed → List ℕ → Worked
+worked b m seq code passes p buffer =
     cond (ltb (length buffer) 217) (record { work = record { number = 7; books = b; count = 0; note = Nothing }; buffer = buffer })
-    (workDone b seq code (deedFor b m p) buffer)
+    (workDone b seq code (deedFor b m passes p) buffer)
 
 -- the size of a frame that was built; of any other none
 abbrev pub sizeOf : Built → ℕ

@@ -35,10 +35,18 @@ pub fn search_in(books: Books, parsed: Parsed) -> Search
     }
 }
 
-// A command with its SEQ and CMD, its data as read, and what the sheet says to it. The whole answer is built in the lent buffer; with
-// less than 217 bytes it is 7.
-pub fn carry_out(books: Books, m: Match, seq: u8, code: u8, parsed: Parsed, buf: &mut [u8]) -> Work
-    ensures { λ r. ⌜ record { work = r; buffer = now (buf .exit) } ≡ worked books m seq code parsed (now (buf .entry)) ⌝ }
+// A command with its SEQ and CMD, its data as read, whether the guard lets it pass, and what the sheet says to it. The whole answer is
+// built in the lent buffer; with less than 217 bytes it is 7.
+pub fn carry_out(
+    books: Books,
+    m: Match,
+    seq: u8,
+    code: u8,
+    passes: bool,
+    parsed: Parsed,
+    buf: &mut [u8],
+) -> Work
+    ensures { λ r. ⌜ record { work = r; buffer = now (buf .exit) } ≡ worked books m seq code passes parsed (now (buf .entry)) ⌝ }
     ensures { λ r. ⌜ r .count ≤ 217 ⌝ }
 {
     if buf.len() < ANSWER_ROOM {
@@ -49,7 +57,7 @@ pub fn carry_out(books: Books, m: Match, seq: u8, code: u8, parsed: Parsed, buf:
             note: Note::Nothing,
         };
     }
-    answer(books, deed_for(books, m, parsed), seq, code, buf)
+    answer(books, deed_for(books, m, passes, parsed), seq, code, buf)
 }
 
 fn answer(books: Books, deed: Deed, seq: u8, code: u8, buf: &mut [u8]) -> Work
@@ -84,11 +92,16 @@ fn sized(day: [u64; 8], sums: [u64; 8], groups: [u64; 8]) -> bool
     true
 }
 
-fn deed_for(books: Books, m: Match, parsed: Parsed) -> Deed
-    ensures { λ r. ⌜ r ≡ deedFor books m parsed ⌝ }
+fn deed_for(books: Books, m: Match, passes: bool, parsed: Parsed) -> Deed
+    ensures { λ r. ⌜ r ≡ deedFor books m passes parsed ⌝ }
 {
     match parsed {
-        Parsed::Read(c) => acts::carry_out(books, m, c),
+        Parsed::Read(c) => {
+            if passes {
+                return acts::carry_out(books, m, c);
+            }
+            deeds::refuse(3, books)
+        }
         Parsed::Syntax => deeds::refuse(1, books),
         Parsed::Unknown => deeds::refuse(2, books),
     }

@@ -1,11 +1,13 @@
--- PROTOCOL 5.1: fifteen kinds of command, each with its own form.
+-- PROTOCOL 5.1: seventeen kinds of command, each with its own form.
 use Prim.Native.Nat.{ℕ}
 use mathlib.Core.Bool.{cond, not, _&&_}
 use mathlib.Core.List.{List, []}
 use lib.Dec.{eqb}
 use Rattle.text.specs.Parts.{has}
 use Rattle.labels.specs.Texts.{onlyLine, firstLine, secondLine}
-use Rattle.kinds.specs.Plain.{bareOf, textOf, openOf, subtotalOf, sumsOf, closingOf, showOf}
+use Rattle.kinds.specs.Plain.{bareOf, textOf, subtotalOf, sumsOf, closingOf, showOf}
+use Rattle.kinds.specs.Operators.{operatorsOf}
+use Rattle.kinds.specs.declared.operators.Third.the-variants as third
 use Rattle.money.specs.Money.{sellOf, payOf, drawerOf}
 use Rattle.kinds.specs.declared.Command.the-variants.{OpenText, CloseText, Close, Cancel, Status, Rates}
 use Rattle.kinds.specs.declared.Parsed.{Parsed}
@@ -17,7 +19,7 @@ formOf code s =
     cond (eqb code 38) (bareOf OpenText s)
     (cond (eqb code 39) (bareOf CloseText s)
     (cond (eqb code 42) (textOf s)
-    (cond (eqb code 48) (openOf s)
+    (cond (eqb code 48) (operatorsOf third.Till s)
     (cond (eqb code 49) (sellOf s)
     (cond (eqb code 51) (subtotalOf s)
     (cond (eqb code 53) (payOf s)
@@ -29,7 +31,9 @@ formOf code s =
     (cond (eqb code 74) (bareOf Status s)
     (cond (eqb code 97) (bareOf Rates s)
     (cond (eqb code 100) (showOf s)
-    Unknown))))))))))))))
+    (cond (eqb code 101) (operatorsOf third.Password s)
+    (cond (eqb code 102) (operatorsOf third.Name s)
+    Unknown))))))))))))))))
 
 -- PROTOCOL 1.4, 5.17: 10h in the data of any known command but 100 is 1; an unknown one stays 2
 abbrev pub notMarked : Parsed → Parsed

@@ -1,6 +1,8 @@
 // What the data of a command means, and its texts (PROTOCOL 5.1, 4.7).
 use kinds::Command;
 use kinds::Parsed;
+use kinds::operators;
+use kinds::operators::Third;
 use kinds::plain;
 ghost use mathlib.Core.Path.{_≡_};
 ghost use Rattle.command.specs.Commands.{formOf, parsedOf, firstText, secondText};
@@ -10,7 +12,7 @@ const SHOW: u8 = 100;
 
 const MARK: u8 = 0x10;
 
-// Any command: its kind with its fields; or 1, where the data is not of its form; or 2, where CMD is none of the fifteen. Only in data of some
+// Any command: its kind with its fields; or 1, where the data is not of its form; or 2, where CMD is none of the seventeen. Only in data of some
 // form is 10h looked for: long data of an unknown command costs nothing here.
 pub fn parse(code: u8, bytes: &[u8]) -> Parsed
     ensures { λ r. ⌜ r ≡ parsedOf code (now (bytes .entry)) ⌝ }
@@ -38,7 +40,7 @@ fn form_of(code: u8, bytes: &[u8]) -> Parsed
         38 => plain::bare(Command::OpenText, bytes),
         39 => plain::bare(Command::CloseText, bytes),
         42 => plain::text(bytes),
-        48 => plain::open_receipt(bytes),
+        48 => operators::read_fields(Third::Till, bytes),
         49 => money::sell(bytes),
         51 => plain::subtotal(bytes),
         53 => money::pay(bytes),
@@ -50,6 +52,8 @@ fn form_of(code: u8, bytes: &[u8]) -> Parsed
         74 => plain::bare(Command::Status, bytes),
         97 => plain::bare(Command::Rates, bytes),
         100 => plain::show_text(bytes),
+        101 => operators::read_fields(Third::Password, bytes),
+        102 => operators::read_fields(Third::Name, bytes),
         _ => Parsed::Unknown,
     }
 }

@@ -42,7 +42,7 @@ abbrev pub handsBack : Begun → (seq code : ℕ) → Work → (at : ℕ) → Li
 handsBack b seq code w at found =
     endedBy b
     (record {
-      device = record { line = record { reader = b .device .line .reader; previous = Frame seq code (w .count) }; books = w .books };
+      device = record { line = record { reader = b .device .line .reader; previous = Frame seq code (w .count) }; books = w .books; guard = b .device .guard };
       number = w .number;
       count = w .count;
       shows = b .shows;
@@ -59,7 +59,7 @@ endingAs Nak b at found last buffer = endedWith b (callNumber Nak 0) at found la
 endingAs Again b at found last buffer =
     endedWith b (callNumber Again 0) at found last buffer (lastAnswer (beforeOf (b .device .line .previous) last))
 endingAs (Order seq code n) b at found last buffer =
-    carriedBehind b seq code at found last (worked (b .device .books) (matchAt at (b .lines) found) seq code (b .parsed) buffer)
+    carriedBehind b seq code at found last (worked (b .device .books) (matchAt at (b .lines) found) seq code (b .passes) (b .parsed) buffer)
 
 abbrev pub ending : Begun → (at : ℕ) → Line → (last buffer : List ℕ) → SecondHalf
 ending b at found last buffer =

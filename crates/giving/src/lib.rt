@@ -127,14 +127,14 @@ fn order(
     buf: &mut [u8],
 ) -> Ended
     requires { ⌜ AtLength (now last) (now buf) ⌝ }
-    ensures { λ r. ⌜ record { ended = r; last = now (last .exit); buffer = now (buf .exit) } ≡ carriedBehind begun seq code at found (now (last .entry)) (worked (begun .device .books) (matchAt at (begun .lines) found) seq code (begun .parsed) (now (buf .entry))) ⌝ }
+    ensures { λ r. ⌜ record { ended = r; last = now (last .exit); buffer = now (buf .exit) } ≡ carriedBehind begun seq code at found (now (last .entry)) (worked (begun .device .books) (matchAt at (begun .lines) found) seq code (begun .passes) (begun .parsed) (now (buf .entry))) ⌝ }
     ensures { λ r. ⌜ r .hearing .given .count ≤ 217 ⌝ }
 {
     let device = begun.device;
     let books = device.books;
     let parsed = begun.parsed;
     let m = sheet::match_at(at, begun.lines, found);
-    let work = carrying::carry_out(books, m, seq, code, parsed, buf);
+    let work = carrying::carry_out(books, m, seq, code, begun.passes, parsed, buf);
     let count = work.count;
     text::put_bytes(last, 0, &buf[0..count]);
     carried_out(begun, seq, code, work, at, found)
@@ -149,6 +149,7 @@ fn carried_out(begun: Begun, seq: u8, code: u8, work: Work, at: usize, found: Li
     let receipt = books.receipt;
     let line = device.line;
     let reader = line.reader;
+    let guard = device.guard;
     let call = begun.call;
     let shows = begun.shows;
     let note = work.note;
@@ -164,6 +165,7 @@ fn carried_out(begun: Begun, seq: u8, code: u8, work: Work, at: usize, found: Li
                 device: Device {
                     line: Port { reader, previous },
                     books: after,
+                    guard,
                 },
                 number: work.number,
                 count: work.count,

@@ -3,7 +3,7 @@ use Prim.Native.Nat.{ℕ}
 use mathlib.Core.List.{List}
 use lib.ListN.{replicate}
 use Rattle.sheet.specs.Sheet.{blank}
-use Rattle.machine.specs.Device.{Machine, freshFields}
+use Rattle.machine.specs.Device.{Machine, freshFields, fieldsAnew}
 use Rattle.machine.specs.Hearing.{PartHeard}
 use Rattle.kept.specs.declared.Kept.{Kept}
 use Rattle.kept.specs.declared.Next.{Next}
@@ -11,6 +11,10 @@ use Rattle.kept.specs.declared.Next.{Next}
 -- PROTOCOL 8.4, 8.8: a fresh one, with a sheet on which nothing stands
 abbrev pub freshKept : Kept
 freshKept = record { device = freshFields; sheet = replicate 512 blank }
+
+-- PROTOCOL 8.9: switched on anew
+abbrev pub keptAnew : Kept → Kept
+keptAnew k = record { device = fieldsAnew (k .device); sheet = k .sheet }
 
 -- PROTOCOL 8.3, 8.8: the device that it is, with its own two arrays
 abbrev pub machineOf : Kept → (frame last : List ℕ) → Machine

@@ -12,7 +12,7 @@ ghost use mathlib.Core.Path.{_≡_};
 ghost use Prim.Native.Nat.{_≤_};
 ghost use lib.ListN.{drop};
 ghost use Rattle.machine.specs.Hearing.{partOf, afterPart};
-ghost use Rattle.kept.specs.ByValue.{machineOf, nextOf, freshKept};
+ghost use Rattle.kept.specs.ByValue.{machineOf, nextOf, freshKept, keptAnew};
 
 // A device and the 512 records of its sheet.
 pub struct Kept {
@@ -47,6 +47,15 @@ pub fn fresh_kept() -> Kept
         device,
         sheet: [line; MOST_LINES],
     }
+}
+
+// Switched on anew: the sheet stays, as an open receipt does.
+pub fn switch_on(kept: Kept) -> Kept
+    ensures { λ r. ⌜ r ≡ keptAnew kept ⌝ }
+{
+    let device = machine::switch_on(kept.device);
+    let sheet = kept.sheet;
+    Kept { device, sheet }
 }
 
 // What `device::hear` does, the sheet by value.

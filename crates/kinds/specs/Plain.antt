@@ -23,19 +23,6 @@ bareOf c s = cond (eqb (length s) 0) (Read c) Syntax
 abbrev pub textOf : List ℕ → Parsed
 textOf s = cond (isText s) (Read PrintText) Syntax
 
--- PROTOCOL 5.3: Op, Pwd and Till of 48, each with its number of digits; Op is from 1 to 8, Pwd has 4 digits at least (DECISIONS 10)
-abbrev pub openWith : List ℕ → List ℕ → List ℕ → Parsed
-openWith op pwd till =
-    fieldThen (fieldOf 1 op) (λ o.
-    fieldThen (fieldOf 6 pwd) (λ p.
-    fieldThen (fieldOf 5 till) (λ t.
-    cond (within 1 8 o && leb 4 (length pwd)) (Read (Open o (record { digits = length pwd; value = p }) t)) Syntax)))
-
--- PROTOCOL 4.8, 5.1: 48, cut at its first comma and the first one behind that
-abbrev pub openOf : List ℕ → Parsed
-openOf s =
-    cond (has comma s && has comma (past comma s)) (openWith (upTo comma s) (upTo comma (past comma s)) (past comma (past comma s))) Syntax
-
 -- PROTOCOL 5.1, 5.5: 51 has two characters, `0` or `1`
 abbrev pub isFlag : ℕ → Bool
 isFlag b = within 0x30 0x31 b

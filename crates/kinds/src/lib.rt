@@ -1,4 +1,5 @@
-// The fifteen kinds of command, each with its own fields (PROTOCOL 5.1), and the forms that name no sum.
+// The seventeen kinds of command, each with its own fields (PROTOCOL 5.1), and the forms that name no sum.
+pub mod operators;
 pub mod plain;
 
 // Compared digit by digit, so with the number of its digits: 00000 is not 0000.
@@ -53,8 +54,8 @@ pub enum Service {
     Out(u64),
 }
 
-// The fifteen kinds. The texts of 42, 49, 53 and 100 stay in the data: `first_text` and `second_text` of `command` hand out the printed ones,
-// `display::show` the one that is shown.
+// The seventeen kinds. The texts of 42, 49, 53 and 100 and the name of 102 stay in the data: `first_text` and `second_text` of `command` hand out the
+// printed ones, `display::show` the one that is shown, `operators::name_in` the name.
 pub enum Command {
     OpenText,
     CloseText,
@@ -82,6 +83,15 @@ pub enum Command {
     Status,
     Rates,
     ShowText,
+    ChangePassword {
+        op: u64,
+        old: Password,
+        new: Password,
+    },
+    ChangeName {
+        op: u64,
+        password: Password,
+    },
 }
 
 // A command, or reply number 1 or 2.

@@ -1,10 +1,8 @@
 // The commands whose data names no sum (PROTOCOL 5.1).
 use crate::Command;
 use crate::Parsed;
-use crate::Password;
-use figures::Number;
 ghost use mathlib.Core.Path.{_≡_};
-ghost use Rattle.kinds.specs.Plain.{bareOf, textOf, openOf, openWith, subtotalOf, isFlag, sumsOf, closingOf, showOf};
+ghost use Rattle.kinds.specs.Plain.{bareOf, textOf, subtotalOf, isFlag, sumsOf, closingOf, showOf};
 
 // 38, 39, 56, 60, 74 and 97: no data.
 pub fn bare(command: Command, s: &[u8]) -> Parsed
@@ -22,53 +20,6 @@ pub fn text(s: &[u8]) -> Parsed
 {
     if labels::is_text(s) {
         return Parsed::Read(Command::PrintText);
-    }
-    Parsed::Syntax
-}
-
-// 48: `Op,Pwd,Till`.
-pub fn open_receipt(s: &[u8]) -> Parsed
-    ensures { λ r. ⌜ r ≡ openOf (now (s .entry)) ⌝ }
-{
-    let first = text::find(s, b',');
-    if first == s.len() {
-        return Parsed::Syntax;
-    }
-    let next = first + 1;
-    let rest = &s[next..];
-    let second = text::find(rest, b',');
-    if second == rest.len() {
-        return Parsed::Syntax;
-    }
-    let last = second + 1;
-    open_with(&s[..first], &rest[..second], &rest[last..])
-}
-
-// Op is one digit 1 to 8, Pwd 4 to 6 digits, Till 1 to 5.
-fn open_with(op: &[u8], password: &[u8], till: &[u8]) -> Parsed
-    ensures { λ r. ⌜ r ≡ openWith (now (op .entry)) (now (password .entry)) (now (till .entry)) ⌝ }
-{
-    let a = figures::digits(op, 1);
-    let Number::Is(o) = a else {
-        return Parsed::Syntax;
-    };
-    let b = figures::digits(password, 6);
-    let Number::Is(p) = b else {
-        return Parsed::Syntax;
-    };
-    let c = figures::digits(till, 5);
-    let Number::Is(t) = c else {
-        return Parsed::Syntax;
-    };
-    if (1 <= o) & (o <= 8) & (4 <= password.len()) {
-        return Parsed::Read(Command::Open {
-            op: o,
-            password: Password {
-                digits: password.len(),
-                value: p,
-            },
-            till: t,
-        });
     }
     Parsed::Syntax
 }

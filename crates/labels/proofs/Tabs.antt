@@ -11,16 +11,16 @@ use borrow.Author.Tests.{le-leb, lt-leb, lt-ltb, le-ltb, ltb-true}
 use Rattle.text.specs.Parts.{every}
 use Rattle.basics.proofs.Tests.{both}
 use Rattle.text.specs.Parts.{firstAt, has, upTo}
-use Rattle.labels.specs.Texts.{tab, lineFeed, isText, areTexts, beginsWithTexts, restOf, onlyLine, firstLine, secondLine}
+use Rattle.labels.specs.Texts.{textWithin, tab, lineFeed, isText, areTexts, beginsWithTexts, restOf, onlyLine, firstLine, secondLine}
 use Rattle.text.proofs.Cutting.{place-within, drop-take}
 use Rattle.labels.specs.declared.Found.{Found}
 use Rattle.labels.specs.declared.Found.the-variants.{At, NotThere}
 
-pub text-long : (s : List ℕ) → 42 < length s → false ≡ isText s
-text-long s h = rw (lt-leb (length s) 42 h)
+pub text-long : (most : ℕ) (s : List ℕ) → most < length s → false ≡ textWithin most s
+text-long most s h = rw (lt-leb (length s) most h)
 
-pub text-short : (s : List ℕ) → length s ≤ 42 → isText s ≡ every (leb 0x20) s
-text-short s h = rw (le-leb (length s) 42 h)
+pub text-short : (most : ℕ) (s : List ℕ) → length s ≤ most → textWithin most s ≡ every (leb 0x20) s
+text-short most s h = rw (le-leb (length s) most h)
 
 pub only-is : (s : List ℕ) → isText s ≡ true → s ≡ onlyLine s
 only-is s e = sym (ap (λ t. cond t s []) e)

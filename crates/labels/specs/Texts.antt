@@ -9,9 +9,17 @@ use Rattle.text.specs.Parts.{firstAt, has, upTo, past}
 use Rattle.labels.specs.declared.Found.{Found}
 use Rattle.labels.specs.declared.Found.the-variants.{At, NotThere}
 
--- PROTOCOL 4.7: at most 42 bytes, none below 20h; 42's data is one text (5.10)
+-- PROTOCOL 4.7: at most so many bytes, none below 20h
+abbrev pub textWithin : (most : ℕ) → List ℕ → Bool
+textWithin most s = leb (length s) most && every (leb 0x20) s
+
+-- PROTOCOL 4.7: a text has 42 at most; 42's data is one text (5.10)
 abbrev pub isText : List ℕ → Bool
-isText s = leb (length s) 42 && every (leb 0x20) s
+isText = textWithin 42
+
+-- PROTOCOL 5.19: the name of an operator has 24 at most
+abbrev pub isName : List ℕ → Bool
+isName = textWithin 24
 
 -- PROTOCOL 5.1: the Tab behind the texts, the line feed between them
 abbrev pub tab : ℕ

@@ -1,10 +1,13 @@
 // The texts before a Tab, and the text of 42: each is handed on as a part of the lent data (PROTOCOL 4.7).
 use text::find;
 ghost use mathlib.Core.Path.{_≡_};
-ghost use Rattle.labels.specs.Texts.{isText, areTexts, restOf, onlyLine, firstLine, secondLine};
+ghost use Rattle.labels.specs.Texts.{textWithin, isText, isName, areTexts, restOf, onlyLine, firstLine, secondLine};
 
 // PROTOCOL 4.7: as many bytes as a text has at most.
 pub const MOST_TEXT: usize = 42;
+
+// PROTOCOL 5.19: as many bytes as the name of an operator has at most.
+pub const MOST_NAME: usize = 24;
 
 // PROTOCOL 4.7: between L1 and L2.
 const LF: u8 = 0x0A;
@@ -22,7 +25,20 @@ pub enum Found {
 pub fn is_text(s: &[u8]) -> bool
     ensures { λ r. ⌜ r ≡ isText (now (s .entry)) ⌝ }
 {
-    if MOST_TEXT < s.len() {
+    is_within(s, MOST_TEXT)
+}
+
+// Up to 24 bytes, each 20h up.
+pub fn is_name(s: &[u8]) -> bool
+    ensures { λ r. ⌜ r ≡ isName (now (s .entry)) ⌝ }
+{
+    is_within(s, MOST_NAME)
+}
+
+fn is_within(s: &[u8], most: usize) -> bool
+    ensures { λ r. ⌜ r ≡ textWithin most (now (s .entry)) ⌝ }
+{
+    if most < s.len() {
         return false;
     }
     let mut i = 0;

@@ -34,6 +34,7 @@ orders seq code k texts m lent =
         device = record {
           line = record { reader = m .device .line .reader; previous = Frame seq code (length (k .answer)) };
           books = k .store .books;
+          guard = k .store .guard;
         };
         frame = m .frame;
         last = sets (m .last) 0 (k .answer);

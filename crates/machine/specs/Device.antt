@@ -14,6 +14,7 @@ use Rattle.line.specs.declared.Previous.{Previous}
 use Rattle.line.specs.declared.Previous.the-variants.{Nothing, Frame}
 use Rattle.sheet.specs.declared.Line.{Line}
 use Rattle.books.specs.Books.{freshBooks}
+use Rattle.guard.specs.Guard.{freshGuard, calmed}
 use Rattle.store.specs.Store.{Store}
 use Rattle.display.specs.Display.{displayOf, displayed}
 use Rattle.display.specs.declared.Display.{Display}
@@ -40,15 +41,23 @@ pub record Machine : Type 0 where
 
 -- PROTOCOL 8.4: the fields of a fresh device
 abbrev pub freshFields : Device
-freshFields = record { line = record { reader = readerOf outside; previous = Nothing }; books = freshBooks }
+freshFields = record { line = record { reader = readerOf outside; previous = Nothing }; books = freshBooks; guard = freshGuard }
+
+-- PROTOCOL 8.9: switched on anew: reading place and frame before are a fresh device's, count and lock are forgotten
+abbrev pub fieldsAnew : Device → Device
+fieldsAnew d = record { line = freshFields .line; books = d .books; guard = calmed (d .guard) }
 
 -- PROTOCOL 8.3: what commands work on, as the device's fields and arrays say it
 abbrev pub storeOf : Machine → Store
-storeOf m = record { books = m .device .books; sheet = m .sheet }
+storeOf m = record { books = m .device .books; sheet = m .sheet; guard = m .device .guard }
 
 abbrev pub stateOf : Machine → State Store
 stateOf m =
     record { place = placeOf (m .device .line .reader) (m .frame); before = beforeOf (m .device .line .previous) (m .last); store = storeOf m }
+
+-- PROTOCOL 8.9: the same of the whole device: its arrays and the sheet hold what they held
+abbrev pub machineAnew : Machine → Machine
+machineAnew m = record { device = fieldsAnew (m .device); frame = m .frame; last = m .last; sheet = m .sheet }
 
 -- the device and what was lent after one byte: the reply number, how many bytes are given back, and what the display shows
 pub record After : Type 0 where
@@ -77,6 +86,7 @@ machineAfter m t =
           previous = previousAfter (m .device .line .previous) (t .carried) (t .state .before);
         };
         books = t .state .store .books;
+        guard = t .state .store .guard;
       };
       frame = keptIn (m .frame) (t .state .place);
       last = lastAfter (m .last) (t .carried) (t .state .before);

@@ -2,6 +2,7 @@
 use books::Books;
 use display::Display;
 use display::MOST_SHOWN;
+use guard::Guard;
 use kinds::Parsed;
 use line::Call;
 use line::MOST_HELD;
@@ -14,13 +15,14 @@ use wire::ANSWER_ROOM;
 ghost use mathlib.Core.Path.{_≡_};
 ghost use lib.ListN.{length, drop};
 ghost use Rattle.display.specs.Display.{displayed};
-ghost use Rattle.machine.specs.Device.{freshFields};
+ghost use Rattle.machine.specs.Device.{freshFields, fieldsAnew};
 ghost use Rattle.machine.specs.Beginning.{longEnough, asksNothing, textsBy, askedOf, notBegun, beginning};
 
 // What a device holds by value; its two arrays and the sheet are lent with every call, as it left them.
 pub struct Device {
     pub line: Port,
     pub books: Books,
+    pub guard: Guard,
 }
 
 // What a byte brought: the device afterwards, the reply number, how many bytes of the lent buffer are given back, and what the display shows.
@@ -38,14 +40,17 @@ pub struct Hearing {
     pub taken: usize,
 }
 
-// A command's data as read, what it looks for in the sheet, and what it shows.
+// A command's data as read, what it looks for in the sheet, what it shows, the guard behind it, and whether that lets it pass.
 pub struct Asked {
     pub parsed: Parsed,
     pub search: Search,
     pub shows: Display,
+    pub guard: Guard,
+    pub passes: bool,
 }
 
-// The first half of a call: the bytes heard, what the last of them asks for, and which line is wanted, in how many.
+// The first half of a call: the bytes heard, what the last of them asks for, and which line is wanted, in how many. The device's guard is
+// that behind the command.
 pub struct Begun {
     pub device: Device,
     pub call: Call,
@@ -54,6 +59,7 @@ pub struct Begun {
     pub lines: usize,
     pub wanted: Line,
     pub shows: Display,
+    pub passes: bool,
     pub enough: bool,
 }
 
@@ -63,7 +69,19 @@ pub fn fresh() -> Device
 {
     let line = line::fresh();
     let books = books::fresh();
-    Device { line, books }
+    let guard = guard::fresh();
+    Device { line, books, guard }
+}
+
+// A device switched on anew: reading place, frame before, wrong passwords and lock are forgotten. All else stays, an open receipt too;
+// what its arrays and the sheet hold is left there.
+pub fn switch_on(device: Device) -> Device
+    ensures { λ r. ⌜ r ≡ fieldsAnew device ⌝ }
+{
+    let line = line::fresh();
+    let books = device.books;
+    let guard = guard::calm(device.guard);
+    Device { line, books, guard }
 }
 
 // The first half: bytes of a lent part from a place on are heard, up to and including the first that asks for something. `room` and
@@ -89,19 +107,25 @@ pub fn begin(
     let listened = line::listen(line, frame, &bytes[start..bytes.len()]);
     let next = listened.line;
     let call = listened.call;
-    let asked = ask(books, call, &*frame, display);
+    let asked = ask(books, device.guard, call, &*frame, display);
     let parsed = asked.parsed;
     let search = asked.search;
     let wanted = search.wanted;
     let shows = asked.shows;
+    let guard = asked.guard;
     Begun {
-        device: Device { line: next, books },
+        device: Device {
+            line: next,
+            books,
+            guard,
+        },
         call,
         taken: listened.taken,
         parsed,
         lines: search.lines,
         wanted,
         shows,
+        passes: asked.passes,
         enough: true,
     }
 }
@@ -118,6 +142,7 @@ fn not_begun(device: Device) -> Begun
         lines: 0,
         wanted,
         shows: Display::Stays,
+        passes: true,
         enough: false,
     }
 }
@@ -130,15 +155,15 @@ fn is_enough(room: usize, lines: usize, shown: usize) -> bool
 }
 
 // An order's data stands in the frame from its fourth byte on.
-fn ask(books: Books, call: Call, frame: &[u8], display: &mut [u8]) -> Asked
+fn ask(books: Books, guard: Guard, call: Call, frame: &[u8], display: &mut [u8]) -> Asked
     requires { ⌜ length (now frame) ≡ 256 ⌝ }
-    ensures { λ r. ⌜ r ≡ askedOf books call (now (frame .entry)) ⌝ }
+    ensures { λ r. ⌜ r ≡ askedOf books guard call (now (frame .entry)) ⌝ }
     ensures { λ r. ⌜ now (display .exit) ≡ displayed (now (display .entry)) (textsBy call (now (frame .entry))) ⌝ }
 {
     match call {
-        Call::Quiet => ask_nothing(),
-        Call::Nak => ask_nothing(),
-        Call::Again => ask_nothing(),
+        Call::Quiet => ask_nothing(guard),
+        Call::Nak => ask_nothing(guard),
+        Call::Again => ask_nothing(guard),
         Call::Order {
             seq: _,
             code,
@@ -147,23 +172,29 @@ fn ask(books: Books, call: Call, frame: &[u8], display: &mut [u8]) -> Asked
             let end = basics::least_size(count, MOST_HELD) + 3;
             let parsed = command::parse(code, &frame[3..end]);
             let search = carrying::search_in(books, parsed);
+            let judged = guard::judge(guard, parsed, &frame[3..end]);
+            let after = judged.guard;
             let shows = display::show(code, &frame[3..end], display);
             Asked {
                 parsed,
                 search,
                 shows,
+                guard: after,
+                passes: judged.passes,
             }
         }
     }
 }
 
-fn ask_nothing() -> Asked
-    ensures { λ r. ⌜ r ≡ asksNothing ⌝ }
+fn ask_nothing(guard: Guard) -> Asked
+    ensures { λ r. ⌜ r ≡ asksNothing guard ⌝ }
 {
     let search = rules::searches::no_search();
     Asked {
         parsed: Parsed::Unknown,
         search,
         shows: Display::Stays,
+        guard,
+        passes: true,
     }
 }

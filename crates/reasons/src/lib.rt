@@ -14,6 +14,7 @@ pub enum Reason {
     Unknown,
     // 3
     WrongPassword,
+    Locked,
     ReceiptOpen,
     ManyReceipts,
     MemoryFull,

@@ -1,7 +1,7 @@
 -- PROTOCOL 2.1: the reply number of each reason.
 use Prim.Native.Nat.{ℕ}
 use Rattle.reasons.specs.declared.Reason.{Reason}
-use Rattle.reasons.specs.declared.Reason.the-variants.{Done, Syntax, OutOfRange, Unknown, WrongPassword, ReceiptOpen, ManyReceipts, MemoryFull, NoFiscal, PaymentDone, ManyLines, GroupDisabled, OffAboveLine, NoLineBack, OffAboveGroup, PaidInFull, AboveRest, NotPaid, NoText, LittleCash, ManyFiscal, LineOver, FinishedOver, TotalOver, GroupOver, RegisterOver, DayOver, MemoryOver, CashOver, InOver, OutOver}
+use Rattle.reasons.specs.declared.Reason.the-variants.{Done, Syntax, OutOfRange, Unknown, WrongPassword, Locked, ReceiptOpen, ManyReceipts, MemoryFull, NoFiscal, PaymentDone, ManyLines, GroupDisabled, OffAboveLine, NoLineBack, OffAboveGroup, PaidInFull, AboveRest, NotPaid, NoText, LittleCash, ManyFiscal, LineOver, FinishedOver, TotalOver, GroupOver, RegisterOver, DayOver, MemoryOver, CashOver, InOver, OutOver}
 
 abbrev pub reasonNumber : Reason → ℕ
 reasonNumber Done = 0
@@ -11,6 +11,7 @@ reasonNumber OutOfRange = 1
 reasonNumber Unknown = 2
 -- not permitted now
 reasonNumber WrongPassword = 3
+reasonNumber Locked = 3
 reasonNumber ReceiptOpen = 3
 reasonNumber ManyReceipts = 3
 reasonNumber MemoryFull = 3

@@ -3,9 +3,13 @@
 use Prim.Native.Nat.{ℕ, _+_, min}
 use mathlib.Core.Bool.{cond, not, _&&_}
 use lib.Dec.{leb, ltb}
+use Rattle.guard.specs.Guard.{trialOf, verdictOf}
+use Rattle.guard.specs.declared.Guard.{Guard}
+use Rattle.guard.specs.declared.Verdict.{Verdict}
+use Rattle.guard.specs.declared.Verdict.the-variants as verdict
+use Rattle.kinds.specs.declared.Command.{Command}
 use Rattle.kinds.specs.declared.Parsed.{Parsed}
 use Rattle.kinds.specs.declared.Parsed.the-variants as parsed
-use Rattle.kinds.specs.declared.Password.{Password}
 use Rattle.kinds.specs.declared.Payment.{Payment}
 use Rattle.sheet.specs.declared.Match.{Match}
 use Rattle.receipt.specs.Receipts.{isCash}
@@ -13,7 +17,7 @@ use Rattle.books.specs.Books.{textOpen, anyOpen}
 use Rattle.books.specs.Registers.{registerOf}
 use Rattle.books.specs.Sound.{inTwelve, mostReceipts}
 use Rattle.books.specs.declared.Books.{Books}
-use Rattle.rules.specs.Reasons.{isPrice, tenderHolds, isRight, full, dayOver, memoryOver, manyOpened, noneOpen, owed, tendered}
+use Rattle.rules.specs.Reasons.{isPrice, tenderHolds, full, dayOver, memoryOver, manyOpened, noneOpen, owed, tendered}
 use Rattle.rules.specs.Views.{viewOf}
 use Rattle.rules.specs.declared.views.View.{View}
 use Rattle.rules.specs.declared.views.View.the-variants.{Opens, Sells, Pays, Closes, Cancels, OpensText, ClosesText, Clears, Puts, Takes, Asks}
@@ -21,17 +25,16 @@ use Rattle.rules.specs.declared.views.When.{When}
 use Rattle.rules.specs.declared.views.When.the-variants.{Always, FiscalIsOpen, TextIsOpen, NoneIsOpen}
 use Rattle.reasons.specs.Lines.{againstSells}
 use Rattle.reasons.specs.declared.Reason.{Reason}
-use Rattle.reasons.specs.declared.Reason.the-variants.{Done, Syntax, OutOfRange, Unknown, WrongPassword, ReceiptOpen, ManyReceipts, MemoryFull, NoFiscal, PaymentDone, PaidInFull, AboveRest, NotPaid, NoText, LittleCash, ManyFiscal, RegisterOver, DayOver, MemoryOver, CashOver, InOver, OutOver}
+use Rattle.reasons.specs.declared.Reason.the-variants.{Done, Syntax, OutOfRange, Unknown, WrongPassword, Locked, ReceiptOpen, ManyReceipts, MemoryFull, NoFiscal, PaymentDone, PaidInFull, AboveRest, NotPaid, NoText, LittleCash, ManyFiscal, RegisterOver, DayOver, MemoryOver, CashOver, InOver, OutOver}
 
--- PROTOCOL 5.3: 48
-abbrev pub againstOpens : Books → Password → Reason
-againstOpens b p =
-    cond (not (isRight p)) WrongPassword
-    (cond (anyOpen (b .opened)) ReceiptOpen
+-- PROTOCOL 5.3: 48, its password being right
+abbrev pub againstOpens : Books → Reason
+againstOpens b =
+    cond (anyOpen (b .opened)) ReceiptOpen
     (cond (manyOpened b) ManyReceipts
     (cond (full b) MemoryFull
     (cond (leb mostReceipts (b .counters .fiscal)) ManyFiscal
-    Done))))
+    Done)))
 
 -- PROTOCOL 5.6: 53
 abbrev pub againstPays : Books → Payment → Reason
@@ -94,7 +97,7 @@ againstAsks b TextIsOpen = cond (not (textOpen (b .opened))) NoText Done
 againstAsks b NoneIsOpen = cond (anyOpen (b .opened)) ReceiptOpen Done
 
 abbrev pub againstView : Books → Match → View → Reason
-againstView b m (Opens p) = againstOpens b p
+againstView b m Opens = againstOpens b
 againstView b m (Sells s) = againstSells b m s
 againstView b m (Pays p) = againstPays b p
 againstView b m Closes = againstCloses b
@@ -106,8 +109,18 @@ againstView b m (Puts n) = againstPuts b n
 againstView b m (Takes n) = againstTakes b n
 againstView b m (Asks when shown) = againstAsks b when
 
--- PROTOCOL 2.2: 2 and 1 are told before books and sheet are asked
-abbrev pub reasonOf : Books → Match → Parsed → Reason
-reasonOf b m (parsed.Read c) = againstView b m (viewOf c)
-reasonOf b m parsed.Syntax = Syntax
-reasonOf b m parsed.Unknown = Unknown
+-- PROTOCOL 5.20: the guard's reason goes before those of the books
+abbrev pub againstVerdict : Verdict → Books → Match → View → Reason
+againstVerdict verdict.Free b m v = againstView b m v
+againstVerdict verdict.Right b m v = againstView b m v
+againstVerdict verdict.Wrong b m v = WrongPassword
+againstVerdict verdict.Locked b m v = Locked
+
+abbrev pub againstCommand : Guard → Books → Match → Command → Reason
+againstCommand g b m c = againstVerdict (verdictOf g (trialOf c)) b m (viewOf c)
+
+-- PROTOCOL 2.2: 2 and 1 are told before guard, books and sheet are asked
+abbrev pub reasonOf : Guard → Books → Match → Parsed → Reason
+reasonOf g b m (parsed.Read c) = againstCommand g b m c
+reasonOf g b m parsed.Syntax = Syntax
+reasonOf g b m parsed.Unknown = Unknown

@@ -20,7 +20,7 @@ use Rattle.books.specs.declared.Shown.{Shown}
 use Rattle.books.specs.declared.Shown.the-variants as shown
 use Rattle.rules.specs.declared.views.View.{View}
 use Rattle.rules.specs.declared.views.View.the-variants.{Opens, Sells, Pays, Closes, Cancels, OpensText, ClosesText, Clears, Puts, Takes, Asks}
-use Rattle.rules.specs.Reasons.{isPrice, tenderHolds, isRight, full, dayOver, memoryOver, manyOpened, noneOpen, unmet, owed, tendered}
+use Rattle.rules.specs.Reasons.{isPrice, tenderHolds, full, dayOver, memoryOver, manyOpened, noneOpen, unmet, owed, tendered}
 use Rattle.rules.specs.Effects.{newReceipt, payment, paidInto, takenIn, newText, cleared}
 
 -- PROTOCOL 2.2: 1 goes before 3, and 3 before 4. DECISIONS 57: 1 is for numbers that no data gives
@@ -40,12 +40,12 @@ noteOf s amount = cond (s .minus) (note.TakesBack (lineOf s amount)) (note.Adds 
 
 -- what the sheet says to it is asked only of a line
 abbrev pub ruleOf : Books → Match → View → Rule
--- PROTOCOL 5.3: 48. For 3: another password, a receipt of either kind open, All at 9999, the memory full. For 4 (8.7): Fiscal would pass its digits. The
+-- PROTOCOL 5.3: 48, its password being right (5.20). For 3: a receipt of either kind open, All at 9999, the memory full. For 4 (8.7): Fiscal would pass its digits. The
 -- sheet is emptied
-ruleOf b m (Opens p) =
+ruleOf b m Opens =
     record {
       one = false;
-      three = not (isRight p) || anyOpen (b .opened) || manyOpened b || full b;
+      three = anyOpen (b .opened) || manyOpened b || full b;
       four = leb mostReceipts (b .counters .fiscal);
       after = newReceipt b;
       shows = shown.AllAndFiscal;

@@ -1,8 +1,8 @@
--- PROTOCOL 5.1: what each command is to the books, in the rule book's order: the one table over the fifteen kinds. A command that changes nothing in the
+-- PROTOCOL 5.1: what each command is to the books, in the rule book's order: the one table over the seventeen kinds. A command that changes nothing in the
 -- books `Asks`: all its rule says is what has to be open for it, and what its answer shows.
 use mathlib.Core.Bool.{true, false}
 use Rattle.kinds.specs.declared.Command.{Command}
-use Rattle.kinds.specs.declared.Command.the-variants.{OpenText, CloseText, PrintText, Open, Sell, Subtotal, Pay, Close, Cancel, Sums, Closing, Drawer, Status, Rates, ShowText}
+use Rattle.kinds.specs.declared.Command.the-variants.{OpenText, CloseText, PrintText, Open, Sell, Subtotal, Pay, Close, Cancel, Sums, Closing, Drawer, Status, Rates, ShowText, ChangePassword, ChangeName}
 use Rattle.kinds.specs.declared.Sale.{Sale}
 use Rattle.kinds.specs.declared.Service.the-variants.{Report, In, Out}
 use Rattle.books.specs.declared.Shown.the-variants as shown
@@ -10,9 +10,13 @@ use Rattle.rules.specs.declared.views.View.{View}
 use Rattle.rules.specs.declared.views.View.the-variants.{Opens, Sells, Pays, Closes, Cancels, OpensText, ClosesText, Clears, Puts, Takes, Asks}
 use Rattle.rules.specs.declared.views.When.the-variants.{Always, FiscalIsOpen, TextIsOpen, NoneIsOpen}
 
+-- always permitted, with an answer of no data
+abbrev pub asksNothing : View
+asksNothing = Asks Always shown.Nothing
+
 abbrev pub viewOf : Command → View
 -- PROTOCOL 5.3, 5.4: 48 and 49
-viewOf (Open op password till) = Opens password
+viewOf (Open op password till) = Opens
 viewOf (Sell s) = Sells s
 -- PROTOCOL 5.5: 51, the total and the eight groups of an open fiscal receipt
 viewOf (Subtotal print show) = Asks FiscalIsOpen shown.Subtotal
@@ -38,12 +42,15 @@ viewOf (Drawer (Out n)) = Takes n
 viewOf Status = Asks Always shown.Status
 viewOf Rates = Asks Always shown.Rates
 -- PROTOCOL 5.17: 100, whose text goes to the display; always permitted
-viewOf ShowText = Asks Always shown.Nothing
+viewOf ShowText = asksNothing
+-- PROTOCOL 5.18, 5.19: 101 and 102 change the guard (5.20), and nothing of the books; permitted with a receipt open too
+viewOf (ChangePassword op old new) = asksNothing
+viewOf (ChangeName op password) = asksNothing
 
 -- what is asked of a line; of every other view it is `none`
 module _ {A : Type 0} (none : A) where
   abbrev pub ofSale : (Sale → A) → View → A
-  ofSale f (Opens password) = none
+  ofSale f Opens = none
   ofSale f (Sells s) = f s
   ofSale f (Pays p) = none
   ofSale f Closes = none

@@ -15,7 +15,7 @@ pub fn search_for(books: Books, view: View) -> Search
     ensures { λ r. ⌜ r ≡ searchFor books view ⌝ }
 {
     match view {
-        View::Opens(_) => no_search(),
+        View::Opens => no_search(),
         View::Sells(s) => search_back(books, s),
         View::Pays(_) => no_search(),
         View::Closes => no_search(),

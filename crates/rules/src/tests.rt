@@ -6,7 +6,6 @@ use books::parts;
 use books::rates;
 use books::rates::Rate;
 use books::sound::MOST_RECEIPTS;
-use kinds::Password;
 use kinds::Tender;
 ghost use mathlib.Core.Path.{_≡_};
 ghost use mathlib.Core.Bool.{not, _||_};
@@ -14,7 +13,7 @@ ghost use Prim.Native.Nat.{_+_};
 ghost use Rattle.books.specs.Groups.{at};
 ghost use Rattle.books.specs.Rates.{isEnabled, rateIn};
 ghost use Rattle.books.specs.Sound.{inTwelve};
-ghost use Rattle.rules.specs.Reasons.{isPrice, tenderHolds, isRight, full, manyOpened, unmet};
+ghost use Rattle.rules.specs.Reasons.{isPrice, tenderHolds, full, manyOpened, unmet};
 
 // One reason or the other.
 pub fn either(a: bool, b: bool) -> bool
@@ -46,16 +45,6 @@ pub fn holds_tender(tender: Tender) -> bool
             is_price(n)
         }
     }
-}
-
-// Whether the password of a 48 is 0000.
-pub fn is_right(p: Password) -> bool
-    ensures { λ r. ⌜ r ≡ isRight p ⌝ }
-{
-    if p.digits == 4 {
-        return p.value == 0;
-    }
-    false
 }
 
 // Whether the fiscal memory takes no closing more.

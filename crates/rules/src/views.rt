@@ -1,13 +1,12 @@
-// What each command is to the books (PROTOCOL 5.1): the one table over the fifteen kinds.
+// What each command is to the books (PROTOCOL 5.1): the one table over the seventeen kinds.
 use books::Shown;
 use kinds::Command;
-use kinds::Password;
 use kinds::Payment;
 use kinds::Sale;
 use kinds::Service;
 ghost use mathlib.Core.Path.{_≡_};
 ghost use Rattle.kinds.specs.declared.Command.the-variants.{Sums, Closing, Drawer};
-ghost use Rattle.rules.specs.Views.{viewOf};
+ghost use Rattle.rules.specs.Views.{asksNothing, viewOf};
 
 // What has to be open for a command that only asks (PROTOCOL 5.2).
 pub enum When {
@@ -19,7 +18,7 @@ pub enum When {
 
 // The ten ways to change the books, and one for every command that changes nothing in them.
 pub enum View {
-    Opens(Password),
+    Opens,
     Sells(Sale),
     Pays(Payment),
     Closes,
@@ -45,9 +44,9 @@ pub fn view_of(command: Command) -> View
         },
         Command::Open {
             op: _,
-            password,
+            password: _,
             till: _,
-        } => View::Opens(password),
+        } => View::Opens,
         Command::Sell(s) => View::Sells(s),
         Command::Subtotal { print: _, show: _ } => View::Asks {
             when: When::FiscalIsOpen,
@@ -67,10 +66,23 @@ pub fn view_of(command: Command) -> View
             when: When::Always,
             shown: Shown::Rates,
         },
-        Command::ShowText => View::Asks {
-            when: When::Always,
-            shown: Shown::Nothing,
-        },
+        Command::ShowText => ask_nothing(),
+        Command::ChangePassword {
+            op: _,
+            old: _,
+            new: _,
+        } => ask_nothing(),
+        Command::ChangeName { op: _, password: _ } => ask_nothing(),
+    }
+}
+
+// 100, 101 and 102: always permitted, and nothing of the books is shown.
+fn ask_nothing() -> View
+    ensures { λ r. ⌜ r ≡ asksNothing ⌝ }
+{
+    View::Asks {
+        when: When::Always,
+        shown: Shown::Nothing,
     }
 }
 

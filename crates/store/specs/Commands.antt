@@ -26,9 +26,10 @@ ruleFor s c = ruleOf (s .books) (matchFor s (viewOf c)) (viewOf c)
 abbrev pub deedOn : Store → View → Deed
 deedOn s v = deedOf (s .books) (matchFor s v) v
 
--- PROTOCOL 5.3, 5.4: the deed's books, and its note in the sheet: `at` is the place of the line found, the next line's is the number of lines before it
+-- PROTOCOL 5.3, 5.4: the deed's books, and its note in the sheet: `at` is the place of the line found, the next line's is the number of lines before it;
+-- the guard is moved apart from them (5.20)
 abbrev pub leftBy : Store → (at : ℕ) → Deed → Store
-leftBy s at d = record { books = d .books; sheet = noted (s .sheet) at (s .books .receipt .lines) (d .note) }
+leftBy s at d = record { books = d .books; sheet = noted (s .sheet) at (s .books .receipt .lines) (d .note); guard = s .guard }
 
 abbrev pub leftOn : Store → View → Store
 leftOn s v = leftBy s (placeFor s v) (deedOn s v)

@@ -15,9 +15,9 @@ use Rattle.machine.specs.Hearing.{PartHeard, afterPart, carriedBy}
 use Rattle.kept.specs.ByValue.{nextOf}
 use Rattle.witness.specs.declared.Seen.{Seen}
 
--- the first reason against a command as read, by the books, and by what the sheet says to it
+-- the first reason against a command as read, by the guard, by the books, and by what the sheet says to it
 abbrev pub reasonBy : Store → Parsed → Reason
-reasonBy s p = reasonOf (s .books) (matchOf (s .sheet) (searchIn (s .books) p)) p
+reasonBy s p = reasonOf (s .guard) (s .books) (matchOf (s .sheet) (searchIn (s .books) p)) p
 
 -- the same of the command that a call carried out; Done where it carried out none
 abbrev pub reasonAmong : Store → List Message → Reason

@@ -1,6 +1,7 @@
 // One call of the device, and why the command that it carried out was refused (DECISIONS 72).
 use books::Books;
 use display::Display;
+use guard::Guard;
 use kept::Kept;
 use line::Call;
 use line::MOST_HELD;
@@ -27,7 +28,7 @@ pub struct Seen {
     pub reason: Reason,
 }
 
-// What `kept::hear_next` does, and the reason, by the books and the sheet before the call.
+// What `kept::hear_next` does, and the reason, by the guard, the books and the sheet before the call.
 pub fn see(
     kept: Kept,
     frame: &mut [u8; FRAME_ROOM],
@@ -46,6 +47,7 @@ pub fn see(
     let shows = next.shows;
     let device = kept.device;
     let books = device.books;
+    let guard = device.guard;
     let sheet = kept.sheet;
     Seen {
         kept: after,
@@ -54,14 +56,14 @@ pub fn see(
         count: next.count,
         shows,
         taken: next.taken,
-        reason: why(books, sheet, call, &*frame),
+        reason: why(guard, books, sheet, call, &*frame),
     }
 }
 
 // The first reason against a call's command. An order's data stands in the frame from its fourth byte on.
-fn why(books: Books, sheet: [Line; MOST_LINES], call: Call, frame: &[u8]) -> Reason
+fn why(guard: Guard, books: Books, sheet: [Line; MOST_LINES], call: Call, frame: &[u8]) -> Reason
     requires { ⌜ length (now frame) ≡ 256 ⌝ }
-    ensures { λ r. ⌜ r ≡ reasonAmong (record { books = books; sheet = sheet }) (carriedBy call (now (frame .entry))) ⌝ }
+    ensures { λ r. ⌜ r ≡ reasonAmong (record { books = books; sheet = sheet; guard = guard }) (carriedBy call (now (frame .entry))) ⌝ }
 {
     match call {
         Call::Quiet => Reason::Done,
@@ -75,7 +77,7 @@ fn why(books: Books, sheet: [Line; MOST_LINES], call: Call, frame: &[u8]) -> Rea
             let end = basics::least_size(count, MOST_HELD) + 3;
             let parsed = command::parse(code, &frame[3..end]);
             let said = matching::match_kept(sheet, carrying::search_in(books, parsed));
-            refusals::reason_of(books, said, parsed)
+            refusals::reason_of(guard, books, said, parsed)
         }
     }
 }

@@ -7,23 +7,23 @@ use lib.ListN.{length, drop}
 use borrow.Author.Tests.{le-leb, lt-leb}
 use Rattle.text.specs.Parts.{every}
 use Rattle.wire.proofs.Suits.{every-turn, every-stop, every-done}
-use Rattle.labels.specs.Texts.{isText}
+use Rattle.labels.specs.Texts.{textWithin}
 use Rattle.labels.proofs.Tabs.{text-long, text-short}
-use Rattle.labels.proofs.is_text.Statement.{statement}
-use Rattle.labels.proofs.is_text.Tie as tie
+use Rattle.labels.proofs.is_within.Statement.{statement}
+use Rattle.labels.proofs.is_within.Tie as tie
 
 -- All bytes before i may stand in a text: what is left decides.
 abbrev Inv-loop : tie.InvT-loop
-Inv-loop s i₀ i = (i ≤ length s) × (isText s ≡ every (leb 0x20) (drop i s))
+Inv-loop s most i₀ i = (i ≤ length s) × (textWithin most s ≡ every (leb 0x20) (drop i s))
 
 abbrev μ-loop : tie.MeasureT-loop
-μ-loop s i₀ i = length s - i
+μ-loop s most i₀ i = length s - i
 
 returns : tie.Need-returns Inv-loop μ-loop
-returns c = text-long (now (c .before .args .s)) (c .if1 .taken)
+returns c = text-long (c .before .args .most) (now (c .before .args .s)) (c .if1 .taken)
 
 loop-holds : tie.Need-loop-holds Inv-loop μ-loop
-loop-holds c = (omega arith, text-short (now (c .before .args .s)) (c .if1 .left))
+loop-holds c = (omega arith, text-short (c .before .args .most) (now (c .before .args .s)) (c .if1 .left))
 
 shared-slice-read-if2 : tie.Need-shared-slice-read-if2 Inv-loop μ-loop
 shared-slice-read-if2 c = omega arith
@@ -51,8 +51,8 @@ returns-3 c =
     let at = c .before in
     sym (at .loop .inv .1 ∙ every-done (leb 0x20) (now (at .before .before .args .s)) (at .loop .i) (c .loop-test .left))
 
-pub is-text-spec : {M : Type 1} → statement M
-is-text-spec =
+pub is-within-spec : {M : Type 1} → statement M
+is-within-spec =
     tie.close
     (tie.spec
     Inv-loop
