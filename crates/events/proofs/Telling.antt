@@ -5,16 +5,35 @@ use mathlib.Core.List.{List, [], _∷_}
 use Prim.Native.Nat.{ℕ, _+_, _<_, _≤_}
 use native.Mathlib.Omega.{arith}
 use lib.Dec.{eqb, leb}
-use lib.ListN.{length, getD}
+use lib.ListN.{length, getD, drop}
 use borrow.Author.Tests.{eq-eqb, ne-eqb}
-use Rattle.events.specs.Events.{deviceEvent, commandEvent, tillEvent, sizeIn, sizedIn, lentBy}
+use Rattle.events.specs.Events.{byteEvent, deviceEvent, commandEvent, tillEvent, sizeIn, sizedIn, lentBy}
 use Rattle.events.specs.declared.Lent.{Lent}
 
--- fewer than two bytes: one more is to come
-pub device-more : (s : List ℕ) → length s < 2 → length s + 1 ≡ deviceEvent s
-device-more [] h = refl
-device-more (a ∷ []) h = refl
-device-more (a ∷ b ∷ s) h = absurd (omega (arith, h))
+-- no byte: one is to come
+pub device-none : (s : List ℕ) → length s < 1 → 1 ≡ deviceEvent s
+device-none [] h = refl
+device-none (a ∷ s) h = absurd (omega (arith, h))
+
+-- a device's event by its first
+by-one : (s : List ℕ) → 1 ≤ length s → deviceEvent s ≡ cond (eqb (getD s 0 0) 0x4F) 1 (byteEvent (getD s 0 0) (drop 1 s))
+by-one [] h = absurd (omega (arith, h))
+by-one (a ∷ s) h = refl
+
+pub device-on : (s : List ℕ) → 1 ≤ length s → getD s 0 0 ≡ 0x4F → 1 ≡ deviceEvent s
+device-on s h e = sym (by-one s h ∙ ap (λ z. cond z 1 (byteEvent (getD s 0 0) (drop 1 s))) (eq-eqb (getD s 0 0) 0x4F e))
+
+with-byte : (s : List ℕ) → 1 ≤ length s → (getD s 0 0 ≡ 0x4F → ⊥) → deviceEvent s ≡ byteEvent (getD s 0 0) (drop 1 s)
+with-byte s h e = by-one s h ∙ ap (λ z. cond z 1 (byteEvent (getD s 0 0) (drop 1 s))) (ne-eqb (getD s 0 0) 0x4F e)
+
+-- any other has a byte at least
+one-alone : (s : List ℕ) → 1 ≤ length s → length s < 2 → byteEvent (getD s 0 0) (drop 1 s) ≡ 2
+one-alone [] h few = absurd (omega (arith, h))
+one-alone (a ∷ []) h few = refl
+one-alone (a ∷ b ∷ s) h few = absurd (omega (arith, few))
+
+pub device-more : (s : List ℕ) → 1 ≤ length s → (getD s 0 0 ≡ 0x4F → ⊥) → length s < 2 → 2 ≡ deviceEvent s
+device-more s h e few = sym (with-byte s h e ∙ one-alone s h few)
 
 pub till-more : (s : List ℕ) → length s < 2 → length s + 1 ≡ tillEvent s
 till-more [] h = refl
@@ -25,16 +44,19 @@ till-more (a ∷ b ∷ s) h = absurd (omega (arith, h))
 abbrev pub isLent : List ℕ → Bool
 isLent s = eqb (getD s 0 0) 0x53 && leb (getD s 1 0) 2
 
-by-two : (s : List ℕ) → 2 ≤ length s → deviceEvent s ≡ cond (eqb (getD s 0 0) 0x42) 2 (cond (isLent s) 5 0)
-by-two [] h = absurd (omega (arith, h))
-by-two (a ∷ []) h = absurd (omega (arith, h))
-by-two (a ∷ b ∷ s) h = refl
+two-there : (s : List ℕ) → 2 ≤ length s → byteEvent (getD s 0 0) (drop 1 s) ≡ cond (eqb (getD s 0 0) 0x42) 2 (cond (isLent s) 5 0)
+two-there [] h = absurd (omega (arith, h))
+two-there (a ∷ []) h = absurd (omega (arith, h))
+two-there (a ∷ b ∷ s) h = refl
 
-pub device-byte : (s : List ℕ) → 2 ≤ length s → getD s 0 0 ≡ 0x42 → 2 ≡ deviceEvent s
-device-byte s h e = sym (by-two s h ∙ ap (λ z. cond z 2 (cond (isLent s) 5 0)) (eq-eqb (getD s 0 0) 0x42 e))
+by-two : (s : List ℕ) → 2 ≤ length s → (getD s 0 0 ≡ 0x4F → ⊥) → deviceEvent s ≡ cond (eqb (getD s 0 0) 0x42) 2 (cond (isLent s) 5 0)
+by-two s h on = with-byte s (omega (arith, h)) on ∙ two-there s h
 
-pub device-other : (s : List ℕ) (lent : Bool) → 2 ≤ length s → (getD s 0 0 ≡ 0x42 → ⊥) → isLent s ≡ lent → cond lent 5 0 ≡ deviceEvent s
-device-other s lent h e el = sym (by-two s h ∙ ap (λ z. cond z 2 (cond (isLent s) 5 0)) (ne-eqb (getD s 0 0) 0x42 e) ∙ ap (λ z. cond z 5 0) el)
+pub device-byte : (s : List ℕ) → 2 ≤ length s → (getD s 0 0 ≡ 0x4F → ⊥) → getD s 0 0 ≡ 0x42 → 2 ≡ deviceEvent s
+device-byte s h on e = sym (by-two s h on ∙ ap (λ z. cond z 2 (cond (isLent s) 5 0)) (eq-eqb (getD s 0 0) 0x42 e))
+
+pub device-other : (s : List ℕ) (lent : Bool) → 2 ≤ length s → (getD s 0 0 ≡ 0x4F → ⊥) → (getD s 0 0 ≡ 0x42 → ⊥) → isLent s ≡ lent → cond lent 5 0 ≡ deviceEvent s
+device-other s lent h on e el = sym (by-two s h on ∙ ap (λ z. cond z 2 (cond (isLent s) 5 0)) (ne-eqb (getD s 0 0) 0x42 e) ∙ ap (λ z. cond z 5 0) el)
 
 -- a till end's by its second, and a command's by its third
 abbrev ofKind : (timeout byte command : Bool) → ℕ → ℕ

@@ -4,7 +4,7 @@ ghost use mathlib.Core.Bool.{cond};
 ghost use Prim.Native.Nat.{_+_, _*_, _<_};
 ghost use lib.Dec.{eqb};
 ghost use lib.ListN.{getD};
-ghost use Rattle.events.specs.Events.{deviceEvent, tillEvent, eventOf, lentBy};
+ghost use Rattle.events.specs.Events.{deviceEvent, tillEvent, eventOf, switchesOn, lentBy};
 
 // The longest event of a device: one thing lent at a length.
 pub const DEVICE_ROOM: usize = 5;
@@ -40,10 +40,16 @@ fn of_device(event: &[u8]) -> usize
     ensures { λ r. ⌜ r ≡ deviceEvent (now (event .entry)) ⌝ }
 {
     let n = event.len();
-    if n < 2 {
-        return n + 1;
+    if n < 1 {
+        return 1;
     }
     let kind = event[0];
+    if kind == b'O' {
+        return 1;
+    }
+    if n < 2 {
+        return 2;
+    }
     if kind == b'B' {
         return 2;
     }
@@ -85,6 +91,14 @@ pub fn room_in(event: &[u8]) -> usize
         return 0;
     }
     event[0] as usize
+}
+
+// Whether a device's event is its switching on; any other has a byte.
+pub fn switches_on(event: [u8; DEVICE_ROOM]) -> bool
+    ensures { λ r. ⌜ r ≡ switchesOn event ⌝ }
+{
+    let kind = event[0];
+    kind == b'O'
 }
 
 // What a device's event lends, of all the bytes and lines that can be lent. Behind a short event the array holds anything.
