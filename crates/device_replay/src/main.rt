@@ -4,6 +4,7 @@ use display::MOST_SHOWN;
 use events::DEVICE_ROOM;
 use events::End;
 use events::Lent;
+use feeding::Fed;
 use kept::Kept;
 use kept::Next;
 use libc::STDERR_FILENO;
@@ -22,11 +23,11 @@ fn main() {
     let mut kept = kept::fresh_kept();
     let mut events: u64 = 0;
     while events < 0xFFFFFFFFFFFFFFFF {
-        let n = feeding::next_event(End::Device, &mut event);
-        if n < 2 {
-            ended(n, events);
+        let fed = feeding::next_event(End::Device, &mut event);
+        let Fed::Whole(_) = fed else {
+            ended(fed, events);
             return;
-        }
+        };
         let lent = events::lent_by(event, ANSWER_ROOM, MOST_LINES, MOST_SHOWN);
         let next = tell(kept, &mut frame, &mut last, lent, &mut buf, &mut display);
         let shows = next.shows;
@@ -44,16 +45,16 @@ fn main() {
     }
 }
 
-// Why there are no more events: 1 is the end of the input, 0 an event that is none.
-fn ended(n: usize, events: u64) {
-    if n == 1 {
+// Why there are no more events: at the end of the input nothing is said.
+fn ended(fed: Fed, events: u64) {
+    let Fed::Broken = fed else {
         return;
-    }
+    };
     io::write_all(STDERR_FILENO, b"error: after ");
     io::print_decimal(STDERR_FILENO, events);
     io::write_all(
         STDERR_FILENO,
-        b" events comes one that is cut short or is none: 42h and a byte, or 53h, 0 to 2, two bytes of length and a byte\n",
+        b" events comes one that is cut short or is none: 4Fh, or 42h and a byte, or 53h, 0 to 2, two bytes of length and a byte\n",
     );
 }
 

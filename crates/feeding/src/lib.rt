@@ -6,36 +6,41 @@ ghost use Prim.Native.Nat.{_<_, _≤_};
 ghost use lib.ListN.{length};
 ghost use Rattle.feeding.specs.Feeding.{Event};
 
-// The next event at the front of the buffer, and its length: 0 where what comes is none, or too long for the buffer, 1 where the input ends
-// or can't be read.
-pub fn next_event(end: End, event: &mut [u8]) -> usize
+// What was read: an event of so many bytes; the input's end, or what can't be read; what is cut short or none, or too long for the buffer.
+pub enum Fed {
+    Whole(usize),
+    Ended,
+    Broken,
+}
+
+// The next event, at the front of the buffer.
+pub fn next_event(end: End, event: &mut [u8]) -> Fed
     ensures { λ r. ⌜ Event end (now (event .exit)) r ⌝ }
-    ensures { λ r. ⌜ r ≤ length (now (event .exit)) ⌝ }
 {
-    if event.len() < 2 {
-        return 0;
+    if event.len() < 1 {
+        return Fed::Broken;
     }
     if !begun(event) {
-        return 1;
+        return Fed::Ended;
     }
     let mut n = 1;
     while n <= event.len() {
         let whole = events::length_of(end, &event[0..n]);
         if whole == n {
-            return n;
+            return Fed::Whole(n);
         }
         if whole < n {
-            return 0;
+            return Fed::Broken;
         }
         if event.len() < whole {
-            return 0;
+            return Fed::Broken;
         }
         if !more(event, n, whole) {
-            return 0;
+            return Fed::Broken;
         }
         n = whole;
     }
-    0
+    Fed::Broken
 }
 
 // The first byte of an event, where one comes.

@@ -1,6 +1,7 @@
 // A till end told of a list of events, and what it says of each. The crate `events` says what an event is.
 use events::End;
 use events::TILL_ROOM;
+use feeding::Fed;
 use libc::STDERR_FILENO;
 use libc::STDOUT_FILENO;
 use reader::FRAME_ROOM;
@@ -20,11 +21,11 @@ fn main() {
     let mut till = till::fresh();
     let mut events: u64 = 0;
     while events < 0xFFFFFFFFFFFFFFFF {
-        let n = feeding::next_event(End::Till, &mut event);
-        if n < 2 {
-            ended(n, events);
+        let fed = feeding::next_event(End::Till, &mut event);
+        let Fed::Whole(n) = fed else {
+            ended(fed, events);
             return;
-        }
+        };
         let said = happen(till, &mut frame, &mut answer, &event, n, &mut buf);
         let word = said.word;
         if !say(word, &buf) {
@@ -37,11 +38,11 @@ fn main() {
     }
 }
 
-// Why there are no more events: 1 is the end of the input, 0 an event that is none.
-fn ended(n: usize, events: u64) {
-    if n == 1 {
+// Why there are no more events: at the end of the input nothing is said.
+fn ended(fed: Fed, events: u64) {
+    let Fed::Broken = fed else {
         return;
-    }
+    };
     io::write_all(STDERR_FILENO, b"error: after ");
     io::print_decimal(STDERR_FILENO, events);
     io::write_all(

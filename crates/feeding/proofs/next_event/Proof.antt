@@ -19,30 +19,12 @@ abbrev μ-loop : tie.MeasureT-loop
 whole-is : (end : End) (bytes : List ℕ) (n whole : ℕ) → whole ≡ eventOf end (take (n - 0) (drop 0 bytes)) → whole ≡ n → eventOf end (take n bytes) ≡ n
 whole-is end bytes n whole e same = let all : n - 0 ≡ n = omega arith in sym (ap (λ k. eventOf end (take k bytes)) all) ∙ sym e ∙ same
 
-returns : tie.Need-returns Inv-loop μ-loop
-returns c = (λ h. absurd (omega (arith, h)), omega arith)
-
-returns-2 : tie.Need-returns-2 Inv-loop μ-loop
-returns-2 c = (λ h. absurd (omega (arith, h)), search needs)
-
 returns-3 : tie.Need-returns-3 Inv-loop μ-loop
 returns-3 c =
     let asked = c .before in
     let turn = asked .before .before .before .before in
     let start = turn .before .before .before .before .before .before .before .before in
-    (λ h. whole-is (start .args .end) (turn .loop .event) (turn .loop .n) (asked .length-of .result) (asked .length-of .ensures) (c .if3 .taken), search needs)
-
-returns-4 : tie.Need-returns-4 Inv-loop μ-loop
-returns-4 c = (λ h. absurd (omega (arith, h)), omega arith)
-
-returns-5 : tie.Need-returns-5 Inv-loop μ-loop
-returns-5 c = (λ h. absurd (omega (arith, h)), omega arith)
-
-returns-6 : tie.Need-returns-6 Inv-loop μ-loop
-returns-6 c = (λ h. absurd (omega (arith, h)), omega arith)
-
-returns-7 : tie.Need-returns-7 Inv-loop μ-loop
-returns-7 c = (λ h. absurd (omega (arith, h)), omega arith)
+    (whole-is (start .args .end) (turn .loop .event) (turn .loop .n) (asked .length-of .result) (asked .length-of .ensures) (c .if3 .taken), search needs)
 
 pub next-event-spec : {M : Type 1} → statement M
 next-event-spec =
@@ -50,10 +32,10 @@ next-event-spec =
     (tie.spec
     Inv-loop
     μ-loop
-    returns
+    (λ c. tt)
     (λ c κs. search needs)
     (λ c. search needs)
-    returns-2
+    (λ c. tt)
     (λ c. search needs)
     (λ c. search needs)
     (λ c. search needs)
@@ -62,13 +44,13 @@ next-event-spec =
     (λ c. search needs)
     returns-3
     (λ c. search needs)
-    returns-4
+    (λ c. tt)
     (λ c. search needs)
-    returns-5
+    (λ c. tt)
     (λ c κs. search needs)
     (λ c. search needs)
-    returns-6
+    (λ c. tt)
     (λ c. search needs)
     (λ c. search needs)
     (λ c. search needs)
-    returns-7)
+    (λ c. tt))
