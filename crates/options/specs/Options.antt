@@ -1,8 +1,8 @@
 -- LINE 1: what the arguments of `printer` ask for.
-use Prim.Native.Nat.{ℕ}
-use mathlib.Core.Bool.{Bool, true, false, cond, _&&_}
-use mathlib.Core.List.{List}
-use lib.Dec.{eqb}
+use Prim.Native.Nat.{ℕ, _+_}
+use mathlib.Core.Bool.{true, false, cond}
+use mathlib.Core.List.{List, [], _∷_}
+use lib.Dec.{eqb, ltb}
 use lib.ListN.{length, getD}
 use Rattle.options.specs.declared.Argument.{Argument}
 use Rattle.options.specs.declared.Argument.the-variants.{Sign, Name, Neither}
@@ -16,26 +16,35 @@ argumentOf s =
     (cond (eqb (length s) 2) (cond (eqb (getD s 1 0) 108) Sign Neither) Neither)
     Name)
 
-abbrev pub isSign : Argument → Bool
-isSign Sign = true
-isSign Name = false
-isSign Neither = false
+-- where LINE and the first and the last RECORDING stand, 0 for none; LINE 1.3: arguments that do not fit name none
+abbrev pub noneAsked : Asked
+noneAsked = record { fits = true; line = 0; first = 0; last = 0 }
 
-abbrev pub isName : Argument → Bool
-isName Sign = false
-isName Name = true
-isName Neither = false
+abbrev pub notOfTheForm : Asked
+notOfTheForm = record { fits = false; line = 0; first = 0; last = 0 }
 
--- LINE 1.3: where LINE and RECORDING stand, 0 for none; arguments that do not fit name neither
-abbrev pub placesOf : Bool → (line recording : ℕ) → Asked
-placesOf fits line recording =
-    cond fits (record { fits = true; line = line; recording = recording }) (record { fits = false; line = 0; recording = 0 })
+-- LINE 1.1: -l stands first, and LINE behind it; every name behind that is a RECORDING
+abbrev pub signedAt : Asked → (place : ℕ) → Asked
+signedAt asked place = cond (eqb place 1) (record { fits = asked .fits; line = 2; first = 0; last = 0 }) notOfTheForm
 
--- LINE 1.1: no argument; RECORDING; -l LINE; -l LINE RECORDING. The program's own name is counted.
-abbrev pub askedFor : ℕ → (first second third : Argument) → Asked
-askedFor count first second third =
-    cond (eqb count 1) (placesOf true 0 0)
-    (cond (eqb count 2) (placesOf (isName first) 0 1)
-    (cond (eqb count 3) (placesOf (isSign first && isName second) 2 0)
-    (cond (eqb count 4) (placesOf ((isSign first && isName second) && isName third) 2 3)
-    (placesOf false 0 0))))
+abbrev pub namedAt : Asked → (place : ℕ) → Asked
+namedAt asked place =
+    cond (eqb place (asked .line)) asked
+    (record { fits = asked .fits; line = asked .line; first = cond (eqb (asked .first) 0) place (asked .first); last = place })
+
+abbrev pub askedWith : Asked → (place : ℕ) → Argument → Asked
+askedWith asked place Sign = signedAt asked place
+askedWith asked place Name = namedAt asked place
+askedWith asked place Neither = notOfTheForm
+
+-- -l alone is of no form. The program's own name is counted.
+abbrev pub askedOf : Asked → (count : ℕ) → Asked
+askedOf asked count = cond (asked .fits) (cond (ltb (asked .line) count) asked notOfTheForm) notOfTheForm
+
+-- one argument behind the other, from a place on
+abbrev pub askedFrom : Asked → (place : ℕ) → List Argument → Asked
+askedFrom asked place [] = asked
+askedFrom asked place (a ∷ rest) = askedFrom (askedWith asked place a) (place + 1) rest
+
+abbrev pub askedFor : List Argument → Asked
+askedFor arguments = askedOf (askedFrom noneAsked 1 arguments) (length arguments + 1)
