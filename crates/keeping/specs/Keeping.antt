@@ -7,7 +7,7 @@ use lib.IntN.{ℤ, pos, negsuc}
 use Rattle.keeping.specs.declared.Source.{Source}
 use Rattle.keeping.specs.declared.Source.the-variants.{Recording, Input, Line}
 use Rattle.keeping.specs.declared.Next.{Next}
-use Rattle.keeping.specs.declared.Next.the-variants.{Silent, Begin, Answer, Wait, End, Closed, Broken}
+use Rattle.keeping.specs.declared.Next.the-variants.{Silent, Anew, Begin, Answer, Wait, End, Closed, Broken}
 
 -- LINE 2.1, 2.2, 3.2: bytes of the recording give nothing back; those of the line are answered
 abbrev pub someRead : Source → Next
@@ -15,15 +15,16 @@ someRead Recording = Silent
 someRead Input = Answer
 someRead Line = Answer
 
--- LINE 2.1, 3.2, 3.3: no bytes are the end of the recording, and then the line comes; the end of standard input; on a terminal only a silence
-abbrev pub noneRead : Source → (terminal : Bool) → Next
-noneRead Recording terminal = Begin
-noneRead Input terminal = End
-noneRead Line terminal = cond terminal Wait Closed
+-- LINE 2.1, 3.2, 3.3: no bytes are the end of the recording, and then comes the next one that is named, or the line; the end of standard input; on a
+-- terminal only a silence
+abbrev pub noneRead : Source → (terminal left : Bool) → Next
+noneRead Recording terminal left = cond left Anew Begin
+noneRead Input terminal left = End
+noneRead Line terminal left = cond terminal Wait Closed
 
 -- LINE 3.4: a read that failed ends everything
-abbrev pub takenFor : Source → (failed terminal : Bool) → (count : ℕ) → Next
-takenFor source failed terminal count = cond failed Broken (cond (eqb count 0) (noneRead source terminal) (someRead source))
+abbrev pub takenFor : Source → (failed terminal left : Bool) → (count : ℕ) → Next
+takenFor source failed terminal left count = cond failed Broken (cond (eqb count 0) (noneRead source terminal left) (someRead source))
 
 -- LINE 2.3: a file's length, by the place of its end
 abbrev pub sizeOf : ℤ → ℕ

@@ -4,7 +4,7 @@ ghost use mathlib.Core.Path.{_≡_};
 ghost use mathlib.Core.Bool.{not};
 ghost use Prim.Native.Nat.{_+_, _/_, min};
 ghost use lib.Dec.{eqb};
-ghost use Rattle.keeping.specs.Stages.{firstStage, stageAt, sourceOf, stageAfter, goesOut};
+ghost use Rattle.keeping.specs.Stages.{firstStage, stageAt, stageAnew, sourceOf, stageAfter, goesOut};
 ghost use Rattle.keeping.specs.Keeping.{takenFor, someRead, noneRead, sizeOf, isWhole, behindLast};
 
 // LINE 2.5: how often a long replay says how far it is, in bytes.
@@ -23,10 +23,11 @@ pub enum Source {
     Line,
 }
 
-// What a read is taken for: bytes heard silently, the end of the replay, bytes heard and answered, a silence, the end, a line that is
+// What a read is taken for: bytes heard silently, the end of a recording that another follows, the end of the replay, bytes heard and answered, a silence, the end, a line that is
 // closed, what can't be read.
 pub enum Next {
     Silent,
+    Anew,
     Begin,
     Answer,
     Wait,
@@ -35,10 +36,11 @@ pub enum Next {
     Broken,
 }
 
-// How far it is: whether the recording is still replayed, how many bytes were heard with the part that was read last, how many bytes that
-// part has, and whether all is over.
+// How far it is: whether a recording is still replayed, whether the device is to be switched on anew for the next one, how many bytes of the
+// recording were heard with the part that was read last, how many bytes that part has, and whether all is over.
 pub struct Stage {
     pub replays: bool,
+    pub anew: bool,
     pub heard: u64,
     pub count: usize,
     pub over: bool,
@@ -56,9 +58,23 @@ fn stage_at(replays: bool, heard: u64, count: usize, over: bool) -> Stage
 {
     Stage {
         replays,
+        anew: false,
         heard,
         count,
         over,
+    }
+}
+
+// Before the first part of the next recording.
+fn stage_anew() -> Stage
+    ensures { λ r. ⌜ r ≡ stageAnew ⌝ }
+{
+    Stage {
+        replays: true,
+        anew: true,
+        heard: 0,
+        count: 0,
+        over: false,
     }
 }
 
@@ -81,6 +97,7 @@ pub fn stage_after(next: Next, heard: u64, count: usize, kept: bool) -> Stage
 {
     match next {
         Next::Silent => stage_at(true, grown(heard, count), count, false),
+        Next::Anew => stage_anew(),
         Next::Begin => stage_at(false, heard, 0, false),
         Next::Answer => {
             if kept {
@@ -102,15 +119,15 @@ pub fn goes_out(replays: bool, given: usize) -> bool
     !replays & (0 < given)
 }
 
-// What a read is taken for; with no bytes read, `terminal` says whether the source is one.
-pub fn taken_for(source: Source, failed: bool, terminal: bool, count: usize) -> Next
-    ensures { λ r. ⌜ r ≡ takenFor source failed terminal count ⌝ }
+// What a read is taken for; with no bytes read, `terminal` says whether the source is one, and `left` whether another recording is named.
+pub fn taken_for(source: Source, failed: bool, terminal: bool, left: bool, count: usize) -> Next
+    ensures { λ r. ⌜ r ≡ takenFor source failed terminal left count ⌝ }
 {
     if failed {
         return Next::Broken;
     }
     if count == 0 {
-        return none_read(source, terminal);
+        return none_read(source, terminal, left);
     }
     some_read(source)
 }
@@ -127,11 +144,16 @@ fn some_read(source: Source) -> Next
 }
 
 // No bytes.
-fn none_read(source: Source, terminal: bool) -> Next
-    ensures { λ r. ⌜ r ≡ noneRead source terminal ⌝ }
+fn none_read(source: Source, terminal: bool, left: bool) -> Next
+    ensures { λ r. ⌜ r ≡ noneRead source terminal left ⌝ }
 {
     match source {
-        Source::Recording => Next::Begin,
+        Source::Recording => {
+            if left {
+                return Next::Anew;
+            }
+            Next::Begin
+        }
         Source::Input => Next::End,
         Source::Line => {
             if terminal {

@@ -1,10 +1,10 @@
-// What `printer` stands between: the line and the recording, as its arguments name them, opened before any byte is heard (LINE 1 and 2). What
+// What `printer` stands between: the line and the recordings, as its arguments name them, opened before any byte is heard (LINE 1 and 2). What
 // the system opens no contract can say: what is promised holds for whatever it answers. What is decided is in `options` and `keeping`.
 use libc::STDERR_FILENO;
 use options::Argument;
 use options::Asked;
 use options::Ends;
-ghost use Rattle.opening.specs.Opening.{Arguments, Opened};
+ghost use Rattle.opening.specs.Opening.{Arguments, Opened, Followed};
 
 // A recording to read and to append to, and whether that can be done.
 struct Tape {
@@ -13,8 +13,8 @@ struct Tape {
     ready: bool,
 }
 
-// A line, and whether it could be opened.
-struct Line {
+// A line or an earlier recording, and whether it could be opened.
+struct Opened {
     fd: i32,
     ready: bool,
 }
@@ -28,7 +28,10 @@ pub fn open_ends() -> Ends
         refuse();
         return options::none_open();
     }
-    let tape = recording_at(asked.recording);
+    if !are_there(asked.first, asked.last) {
+        return options::none_open();
+    }
+    let tape = recording_at(asked.last);
     if !tape.ready {
         return options::none_open();
     }
@@ -36,23 +39,79 @@ pub fn open_ends() -> Ends
     if !line.ready {
         return options::none_open();
     }
-    options::ends_of(asked, line.fd, tape.old, tape.tape)
+    let ends = options::ends_of(asked, line.fd, tape.old, tape.tape);
+    next_recording(ends)
+}
+
+// The next recording, where one is named, instead of the one that was replayed; or a message.
+pub fn next_recording(ends: Ends) -> Ends
+    ensures { λ r. ⌜ Followed ends r ⌝ }
+{
+    let next = earlier_at(options::next_place(ends));
+    if !next.ready {
+        return options::none_open();
+    }
+    done_with(ends.old);
+    options::next_of(ends, next.fd)
+}
+
+fn done_with(fd: i32) {
+    if 0 <= fd {
+        libc::close(fd);
+    }
+}
+
+// Whether the recordings before the last can be opened: looked at before anything is made.
+fn are_there(first: usize, last: usize) -> bool {
+    let mut place = first;
+    while place < last {
+        let one = earlier_at(place);
+        if !one.ready {
+            return false;
+        }
+        done_with(one.fd);
+        place += 1;
+    }
+    true
+}
+
+// The argument's name, as a recording that is only read; place 0 is none.
+fn earlier_at(place: usize) -> Opened {
+    if place == 0 {
+        return Opened {
+            fd: -1,
+            ready: true,
+        };
+    }
+    let mut name = io::buffer();
+    let n = os::arg(place, &mut name);
+    let fd = os::open_read(&name[..n]);
+    if fd < 0 {
+        io::write_all(STDERR_FILENO, b"error: the recording can't be opened: ");
+        os::fail(&name[..n]);
+    }
+    Opened { fd, ready: 0 <= fd }
 }
 
 fn refuse() {
     io::write_all(
         STDERR_FILENO,
-        b"usage: printer [-l LINE] [RECORDING]\nerror: these arguments are of no such form\n",
+        b"usage: printer [-l LINE] [RECORDING]..\nerror: these arguments are of no such form\n",
     );
 }
 
 fn arguments() -> Asked
     ensures { λ r. ⌜ Arguments r ⌝ }
 {
-    let first = argument(1);
-    let second = argument(2);
-    let third = argument(3);
-    options::asked_for(os::arg_count(), first, second, third)
+    let count = os::arg_count();
+    let mut asked = options::none_asked();
+    let mut place = 1;
+    while place < count {
+        let with = options::asked_with(asked, place, argument(place));
+        asked = with;
+        place += 1;
+    }
+    options::asked_of(asked, place)
 }
 
 fn argument(i: usize) -> Argument {
@@ -148,9 +207,9 @@ fn is_synced(folder: &[u8]) -> bool {
 }
 
 // The argument's name, as a line; place 0 is none.
-fn line_at(place: usize) -> Line {
+fn line_at(place: usize) -> Opened {
     if place == 0 {
-        return Line {
+        return Opened {
             fd: -1,
             ready: true,
         };
@@ -162,5 +221,5 @@ fn line_at(place: usize) -> Line {
         io::write_all(STDERR_FILENO, b"error: the line can't be opened: ");
         os::fail(&name[..n]);
     }
-    Line { fd, ready: 0 <= fd }
+    Opened { fd, ready: 0 <= fd }
 }

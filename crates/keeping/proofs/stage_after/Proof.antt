@@ -20,7 +20,7 @@ returns : tie.Need-returns
 returns c =
     let asked = c .before .before in
     let a = asked .before .before .before .args in
-    case (a .next) _ (a .heard) (a .count) (a .kept) (c .stage-at3 .result) (asked .before .enum-told3 .given .1)
+    case (a .next) _ (a .heard) (a .count) (a .kept) (c .stage-at3 .result) (asked .before .enum-told4 .given .1)
     (c .stage-at3 .ensures ∙ ap (λ z. stageAt false z (a .count) false) (c .before .grown2 .ensures) ∙ sym (ap (λ z. either z (a .heard) (a .count)) (asked .if1 .taken)))
 
 returns-2 : tie.Need-returns-2
@@ -29,27 +29,27 @@ returns-2 c =
     let a = told .before .before .args in
     case (a .next) _ (a .heard) (a .count) (a .kept) (c .stage-at .result) (told .enum-told .given .1) (c .stage-at .ensures ∙ ap (λ z. stageAt true z (a .count) false) (c .before .grown .ensures))
 
-returns-3 : tie.Need-returns-3
-returns-3 c = let a = c .before .before .before .args in case (a .next) _ (a .heard) (a .count) (a .kept) (c .stage-at2 .result) (c .before .enum-told2 .given .1) (c .stage-at2 .ensures)
-
 returns-4 : tie.Need-returns-4
-returns-4 c =
-    let asked = c .before in
-    let a = asked .before .before .before .args in
-    case (a .next) _ (a .heard) (a .count) (a .kept) (c .stage-at4 .result) (asked .before .enum-told3 .given .1)
-    (c .stage-at4 .ensures ∙ sym (ap (λ z. either z (a .heard) (a .count)) (asked .if1 .left)))
+returns-4 c = let a = c .before .before .before .args in case (a .next) _ (a .heard) (a .count) (a .kept) (c .stage-at2 .result) (c .before .enum-told3 .given .1) (c .stage-at2 .ensures)
 
 returns-5 : tie.Need-returns-5
-returns-5 c = let a = c .before .before .before .args in case (a .next) _ (a .heard) (a .count) (a .kept) (c .stage-at5 .result) (c .before .enum-told4 .given .1) (c .stage-at5 .ensures)
+returns-5 c =
+    let asked = c .before in
+    let a = asked .before .before .before .args in
+    case (a .next) _ (a .heard) (a .count) (a .kept) (c .stage-at4 .result) (asked .before .enum-told4 .given .1)
+    (c .stage-at4 .ensures ∙ sym (ap (λ z. either z (a .heard) (a .count)) (asked .if1 .left)))
 
 returns-6 : tie.Need-returns-6
-returns-6 c = let a = c .before .before .before .args in case (a .next) _ (a .heard) (a .count) (a .kept) (c .stage-at6 .result) (c .before .enum-told5 .given .1) (c .stage-at6 .ensures)
+returns-6 c = let a = c .before .before .before .args in case (a .next) _ (a .heard) (a .count) (a .kept) (c .stage-at5 .result) (c .before .enum-told5 .given .1) (c .stage-at5 .ensures)
 
 returns-7 : tie.Need-returns-7
-returns-7 c = let a = c .before .before .before .args in case (a .next) _ (a .heard) (a .count) (a .kept) (c .stage-at7 .result) (c .before .enum-told6 .given .1) (c .stage-at7 .ensures)
+returns-7 c = let a = c .before .before .before .args in case (a .next) _ (a .heard) (a .count) (a .kept) (c .stage-at6 .result) (c .before .enum-told6 .given .1) (c .stage-at6 .ensures)
 
 returns-8 : tie.Need-returns-8
-returns-8 c = let a = c .before .before .before .args in case (a .next) _ (a .heard) (a .count) (a .kept) (c .stage-at8 .result) (c .before .enum-told7 .given .1) (c .stage-at8 .ensures)
+returns-8 c = let a = c .before .before .before .args in case (a .next) _ (a .heard) (a .count) (a .kept) (c .stage-at7 .result) (c .before .enum-told7 .given .1) (c .stage-at7 .ensures)
+
+returns-9 : tie.Need-returns-9
+returns-9 c = let a = c .before .before .before .args in case (a .next) _ (a .heard) (a .count) (a .kept) (c .stage-at8 .result) (c .before .enum-told8 .given .1) (c .stage-at8 .ensures)
 
 pub stage-after-spec : {M : Type 1} → statement M
 stage-after-spec =
@@ -57,6 +57,8 @@ stage-after-spec =
     (tie.spec
     (λ c. search needs)
     (λ c κs. search needs)
+    (λ c κs. search needs)
+    (λ c. search needs)
     (λ c κs. search needs)
     (λ c. search needs)
     (λ c κs. search needs)
@@ -74,9 +76,10 @@ stage-after-spec =
     (λ c. search needs)
     (λ c κs. search needs)
     returns-2
-    returns-3
+    (λ c. search needs)
     returns-4
     returns-5
     returns-6
     returns-7
-    returns-8)
+    returns-8
+    returns-9)
