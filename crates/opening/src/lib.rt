@@ -14,7 +14,7 @@ struct Tape {
 }
 
 // A line or an earlier recording, and whether it could be opened.
-struct Opened {
+struct Found {
     fd: i32,
     ready: bool,
 }
@@ -76,9 +76,9 @@ fn are_there(first: usize, last: usize) -> bool {
 }
 
 // The argument's name, as a recording that is only read; place 0 is none.
-fn earlier_at(place: usize) -> Opened {
+fn earlier_at(place: usize) -> Found {
     if place == 0 {
-        return Opened {
+        return Found {
             fd: -1,
             ready: true,
         };
@@ -90,7 +90,7 @@ fn earlier_at(place: usize) -> Opened {
         io::write_all(STDERR_FILENO, b"error: the recording can't be opened: ");
         os::fail(&name[..n]);
     }
-    Opened { fd, ready: 0 <= fd }
+    Found { fd, ready: 0 <= fd }
 }
 
 fn refuse() {
@@ -207,9 +207,9 @@ fn is_synced(folder: &[u8]) -> bool {
 }
 
 // The argument's name, as a line; place 0 is none.
-fn line_at(place: usize) -> Opened {
+fn line_at(place: usize) -> Found {
     if place == 0 {
-        return Opened {
+        return Found {
             fd: -1,
             ready: true,
         };
@@ -221,5 +221,5 @@ fn line_at(place: usize) -> Opened {
         io::write_all(STDERR_FILENO, b"error: the line can't be opened: ");
         os::fail(&name[..n]);
     }
-    Opened { fd, ready: 0 <= fd }
+    Found { fd, ready: 0 <= fd }
 }

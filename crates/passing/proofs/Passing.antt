@@ -8,13 +8,14 @@ use Rattle.keeping.specs.Keeping.{takenFor}
 use Rattle.keeping.specs.Stages.{sourceOf, stageAfter, goesOut}
 use Rattle.keeping.specs.declared.Source.{Source}
 use Rattle.keeping.specs.declared.Next.{Next}
-use Rattle.keeping.specs.declared.Next.the-variants.{Silent, Begin, Answer, Wait, End, Closed, Broken}
+use Rattle.keeping.specs.declared.Next.the-variants.{Silent, Anew, Begin, Answer, Wait, End, Closed, Broken}
 use Rattle.keeping.specs.declared.Stage.{Stage}
 use Rattle.passing.specs.Passing.{PartRead, Answered}
 
 -- no part has more bytes than were read
 few : (x : Next) (heard count room : ℕ) (kept : Bool) → count ≤ room → stageAfter x heard count kept .count ≤ room
 few Silent heard count room kept h = h
+few Anew heard count room kept h = omega arith
 few Begin heard count room kept h = omega arith
 few Answer heard count room true h = h
 few Answer heard count room false h = omega arith
@@ -23,11 +24,11 @@ few End heard count room kept h = omega arith
 few Closed heard count room kept h = omega arith
 few Broken heard count room kept h = omega arith
 
-module _ (replays online failed terminal kept : Bool) (heard count room : ℕ) where
-  pub part-is : (source : Source) (next : Next) (r : Stage) → source ≡ sourceOf replays online → next ≡ takenFor source failed terminal count → r ≡ stageAfter next heard count kept → count ≤ room
-      → PartRead replays online heard room r × (r .count ≤ room)
+module _ (replays online left failed terminal kept : Bool) (heard count room : ℕ) where
+  pub part-is : (source : Source) (next : Next) (r : Stage) → source ≡ sourceOf replays online → next ≡ takenFor source failed terminal left count → r ≡ stageAfter next heard count kept → count ≤ room
+      → PartRead replays online left heard room r × (r .count ≤ room)
   part-is source next r es en er h =
-      let next-is : next ≡ takenFor (sourceOf replays online) failed terminal count = en ∙ ap (λ z. takenFor z failed terminal count) es in (
+      let next-is : next ≡ takenFor (sourceOf replays online) failed terminal left count = en ∙ ap (λ z. takenFor z failed terminal left count) es in (
         record { failed = failed; terminal = terminal; kept = kept; count = count; fits = h; is = er ∙ ap (λ z. stageAfter z heard count kept) next-is },
         subst (λ (z : Stage). z .count ≤ room) (sym er) (few next heard count room kept h),
       )

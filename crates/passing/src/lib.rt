@@ -8,18 +8,20 @@ use libc::STDERR_FILENO;
 use options::Ends;
 ghost use Prim.Native.Nat.{_≤_};
 ghost use lib.ListN.{length};
+ghost use Rattle.options.specs.Ends.{namesLeft};
 ghost use Rattle.passing.specs.Passing.{PartRead, Answered};
 
 // The next part, in the first bytes; over where there is none, and then a message says why.
 pub fn read_part(ends: Ends, stage: Stage, bytes: &mut [u8]) -> Stage
-    ensures { λ r. ⌜ PartRead (stage .replays) (ends .online) (stage .heard) (length (now (bytes .exit))) r ⌝ }
+    ensures { λ r. ⌜ PartRead (stage .replays) (ends .online) (namesLeft ends) (stage .heard) (length (now (bytes .exit))) r ⌝ }
     ensures { λ r. ⌜ r .count ≤ length (now (bytes .exit)) ⌝ }
 {
     let source = keeping::source_of(stage.replays, ends.online);
+    let left = options::names_left(ends);
     let fd = descriptor(ends, stage);
     let got = libc::read(fd, bytes);
     let n = io::count(got, &*bytes);
-    let next = keeping::taken_for(source, is_failed(got), is_terminal(fd, got), n);
+    let next = keeping::taken_for(source, is_failed(got), is_terminal(fd, got), left, n);
     let kept = act(ends, source, next, stage.heard, &bytes[0..n]);
     keeping::stage_after(next, stage.heard, n, kept)
 }
@@ -47,7 +49,8 @@ fn is_terminal(fd: i32, got: isize) -> bool {
 // be kept are.
 fn act(ends: Ends, source: Source, next: Next, heard: u64, bytes: &[u8]) -> bool {
     match next {
-        Next::Silent => replayed(ends.tape, heard, bytes.len()),
+        Next::Silent => replayed(ends, heard, bytes.len()),
+        Next::Anew => true,
         Next::Begin => true,
         Next::Answer => keep(ends.tape, bytes),
         Next::Wait => true,
@@ -58,19 +61,22 @@ fn act(ends: Ends, source: Source, next: Next, heard: u64, bytes: &[u8]) -> bool
 }
 
 // Bytes of the recording: a long one says how far it is.
-fn replayed(tape: i32, before: u64, n: usize) -> bool {
+fn replayed(ends: Ends, before: u64, n: usize) -> bool {
     let heard = keeping::grown(before, n);
     if keeping::reports(before, heard) {
-        report(tape, heard);
+        report(ends, heard);
     }
     true
 }
 
-fn report(tape: i32, heard: u64) {
-    let size = keeping::size_of(libc::lseek(tape, 0, SEEK_END));
+// Of the last one also how long it is: its end is looked for where nothing is read.
+fn report(ends: Ends, heard: u64) {
     io::print_decimal(STDERR_FILENO, heard);
-    io::write_all(STDERR_FILENO, b" of ");
-    io::print_decimal(STDERR_FILENO, size);
+    if !options::names_left(ends) {
+        let size = keeping::size_of(libc::lseek(ends.tape, 0, SEEK_END));
+        io::write_all(STDERR_FILENO, b" of ");
+        io::print_decimal(STDERR_FILENO, size);
+    }
     io::write_all(STDERR_FILENO, b" bytes of the recording are heard\n");
 }
 
