@@ -25,10 +25,10 @@ few Closed heard count room kept h = omega arith
 few Broken heard count room kept h = omega arith
 
 module _ (replays online left failed terminal kept : Bool) (heard count room : ℕ) where
-  pub part-is : (source : Source) (next : Next) (r : Stage) → source ≡ sourceOf replays online → next ≡ takenFor source failed terminal left count → r ≡ stageAfter next heard count kept → count ≤ room
+  pub part-is : (source : Source) (named : Bool) (next : Next) (r : Stage) → source ≡ sourceOf replays online → named ≡ left → next ≡ takenFor source failed terminal named count → r ≡ stageAfter next heard count kept → count ≤ room
       → PartRead replays online left heard room r × (r .count ≤ room)
-  part-is source next r es en er h =
-      let next-is : next ≡ takenFor (sourceOf replays online) failed terminal left count = en ∙ ap (λ z. takenFor z failed terminal left count) es in (
+  part-is source named next r es el en er h =
+      let next-is : next ≡ takenFor (sourceOf replays online) failed terminal left count = en ∙ ap (λ z. takenFor source failed terminal z count) el ∙ ap (λ z. takenFor z failed terminal left count) es in (
         record { failed = failed; terminal = terminal; kept = kept; count = count; fits = h; is = er ∙ ap (λ z. stageAfter z heard count kept) next-is },
         subst (λ (z : Stage). z .count ≤ room) (sym er) (few next heard count room kept h),
       )
