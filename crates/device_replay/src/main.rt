@@ -28,6 +28,12 @@ fn main() {
             ended(fed, events);
             return;
         };
+        if events::switches_on(event) {
+            let switched = kept::switch_on(kept);
+            kept = switched;
+            events += 1;
+            continue;
+        }
         let lent = events::lent_by(event, ANSWER_ROOM, MOST_LINES, MOST_SHOWN);
         let next = tell(kept, &mut frame, &mut last, lent, &mut buf, &mut display);
         let shows = next.shows;

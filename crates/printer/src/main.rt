@@ -1,5 +1,5 @@
 // A device on a line: the raw bytes that it receives on standard input or a LINE, all that it gives back on standard output or the same LINE,
-// as soon as it is there. With a RECORDING it stands where that ends, and keeps there what it hears (LINE).
+// as soon as it is there. With a RECORDING it stands where that ends, and keeps there what it hears; each further one is a switching on (LINE).
 use display::MOST_SHOWN;
 use kept::Kept;
 use options::Ends;
@@ -22,8 +22,10 @@ fn main() {
     }
 }
 
-// Part by part: read, and kept where it came from the line; heard; answered.
-fn run(ends: Ends) {
+// Part by part: read, and kept where it came from the line; heard; answered. Behind a recording that another follows the device is switched on
+// anew.
+fn run(first: Ends) {
+    let mut ends = first;
     let mut frame = [0u8; FRAME_ROOM];
     let mut last = [0u8; ANSWER_ROOM];
     let mut out = out_room();
@@ -35,6 +37,15 @@ fn run(ends: Ends) {
         stage = passing::read_part(ends, stage, &mut bytes);
         if stage.over {
             return;
+        }
+        if stage.anew {
+            let switched = kept::switch_on(kept);
+            kept = switched;
+            let following = opening::next_recording(ends);
+            ends = following;
+            if !ends.ready {
+                return;
+            }
         }
         let n = stage.count;
         let part = hear(kept, &mut frame, &mut last, &bytes[0..n], &mut out);
