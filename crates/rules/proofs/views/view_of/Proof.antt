@@ -47,7 +47,13 @@ returns-14 : tie.Need-returns-14
 returns-14 c = sym (ap viewOf (c .enum-told8 .given .1))
 
 returns-15 : tie.Need-returns-15
-returns-15 c = sym (ap viewOf (c .enum-told9 .given .1))
+returns-15 c = c .ask-nothing .ensures ∙ sym (ap viewOf (c .before .enum-told9 .given .1))
+
+returns-16 : tie.Need-returns-16
+returns-16 c = c .ask-nothing2 .ensures ∙ sym (ap viewOf (c .before .before .command7 .given .1))
+
+returns-17 : tie.Need-returns-17
+returns-17 c = c .ask-nothing3 .ensures ∙ sym (ap viewOf (c .before .before .command8 .given .1))
 
 pub view-of-spec : {M : Type 1} → statement M
 view-of-spec =
@@ -85,4 +91,6 @@ view-of-spec =
     returns-12
     returns-13
     returns-14
-    returns-15)
+    returns-15
+    returns-16
+    returns-17)
