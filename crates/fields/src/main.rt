@@ -44,6 +44,12 @@ const OPEN: [u8; 13] = *b" open op     ";
 
 const PASSWORD: [u8; 13] = *b" password    ";
 
+const CHANGE_PASSWORD: [u8; 13] = *b" password op ";
+
+const NEW: [u8; 13] = *b" new         ";
+
+const CHANGE_NAME: [u8; 13] = *b" name op     ";
+
 const TILL: [u8; 13] = *b" till        ";
 
 const SELL: [u8; 13] = *b" sell group  ";
@@ -170,6 +176,8 @@ fn kind(c: Command) {
         Command::Status => word(STATUS),
         Command::Rates => word(RATES),
         Command::ShowText => word(SHOW_TEXT),
+        Command::ChangePassword { op, old, new } => change_password(op, old, new),
+        Command::ChangeName { op, password } => change_name(op, password),
     }
 }
 
@@ -179,12 +187,28 @@ fn subtotal(print: bool, show: bool) {
 }
 
 fn open(op: u64, password: Password, till: u64) {
+    field(OPEN, op);
+    secret(PASSWORD, password);
+    field(TILL, till);
+}
+
+fn change_password(op: u64, old: Password, new: Password) {
+    field(CHANGE_PASSWORD, op);
+    secret(PASSWORD, old);
+    secret(NEW, new);
+}
+
+fn change_name(op: u64, password: Password) {
+    field(CHANGE_NAME, op);
+    secret(PASSWORD, password);
+}
+
+// How many digits, and their value.
+fn secret(name: [u8; 13], password: Password) {
     let digits = password.digits;
     let value = password.value;
-    field(OPEN, op);
-    field(PASSWORD, digits as u64);
+    field(name, digits as u64);
     number(value);
-    field(TILL, till);
 }
 
 fn sell(sale: Sale) {

@@ -2,7 +2,7 @@
 use Prim.Native.Nat.{ℕ, _+_, _%_}
 use mathlib.Core.Bool.{Bool, cond}
 use Rattle.kinds.specs.declared.Command.{Command}
-use Rattle.kinds.specs.declared.Command.the-variants.{OpenText, CloseText, PrintText, Open, Sell, Subtotal, Pay, Close, Cancel, Sums, Closing, Drawer, Status, Rates, ShowText}
+use Rattle.kinds.specs.declared.Command.the-variants.{OpenText, CloseText, PrintText, Open, Sell, Subtotal, Pay, Close, Cancel, Sums, Closing, Drawer, Status, Rates, ShowText, ChangePassword, ChangeName}
 use Rattle.kinds.specs.declared.Parsed.{Parsed}
 use Rattle.kinds.specs.declared.Parsed.the-variants.{Read, Syntax, Unknown}
 use Rattle.kinds.specs.declared.Password.{Password}
@@ -16,6 +16,7 @@ use Rattle.kinds.specs.declared.Tender.{Tender}
 use Rattle.kinds.specs.declared.Tender.the-variants as tender
 use Rattle.kinds.specs.declared.Service.{Service}
 use Rattle.kinds.specs.declared.Service.the-variants as service
+use Rattle.items.specs.declared.Label.{Label}
 use Rattle.items.specs.declared.Label.the-variants as label
 use Rattle.items.specs.declared.Saying.{Saying}
 use Rattle.items.specs.declared.Saying.the-variants as saying
@@ -28,10 +29,15 @@ use Rattle.items.specs.Items.{item, noItem, four}
 abbrev pub alone : Item → Four
 alone first = four first noItem noItem noItem
 
--- PROTOCOL 5.3: 48
-abbrev pub openFields : ℕ → Password → ℕ → Four
-openFields op password till =
-    four (item label.Operator (Number op)) (item label.Password (Digits (password .digits) (password .value))) (item label.TillNumber (Number till)) noItem
+-- PROTOCOL 5.3, 5.18, 5.19: 48, 101 and 102
+abbrev pub passwordItem : Label → Password → Item
+passwordItem which password = item which (Digits (password .digits) (password .value))
+
+abbrev pub tillItem : ℕ → Item
+tillItem till = item label.TillNumber (Number till)
+
+abbrev pub operatorFields : ℕ → Password → Item → Four
+operatorFields op password third = four (item label.Operator (Number op)) (passwordItem label.Password password) third noItem
 
 -- PROTOCOL 5.4: 49
 abbrev pub adjusted : Adjust → Item
@@ -81,7 +87,7 @@ abbrev pub fieldsOf : Command → Four
 fieldsOf OpenText = alone noItem
 fieldsOf CloseText = alone noItem
 fieldsOf PrintText = alone noItem
-fieldsOf (Open op password till) = openFields op password till
+fieldsOf (Open op password till) = operatorFields op password (tillItem till)
 fieldsOf (Sell s) = saleFields s
 fieldsOf (Subtotal print show) = flags print show
 fieldsOf (Pay p) = payFields p
@@ -93,6 +99,8 @@ fieldsOf (Drawer service) = drawerFields service
 fieldsOf Status = alone noItem
 fieldsOf Rates = alone noItem
 fieldsOf ShowText = alone noItem
+fieldsOf (ChangePassword op old new) = operatorFields op old (passwordItem label.NewPassword new)
+fieldsOf (ChangeName op password) = operatorFields op password noItem
 
 -- none where the data is not of the command's form, or there is no such command
 abbrev pub askedOf : Parsed → Four

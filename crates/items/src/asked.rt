@@ -17,7 +17,7 @@ use kinds::Tender;
 ghost use mathlib.Core.Path.{_≡_};
 ghost use mathlib.Core.Bool.{cond};
 ghost use Rattle.items.specs.Items.{noItem};
-ghost use Rattle.items.specs.Asked.{askedOf, fieldsOf, openFields, saleFields, adjusted, flags, payFields, modeSaying, tendered, drawerFields, asksFor, alone};
+ghost use Rattle.items.specs.Asked.{askedOf, fieldsOf, operatorFields, tillItem, passwordItem, saleFields, adjusted, flags, payFields, modeSaying, tendered, drawerFields, asksFor, alone};
 
 // Those of a command that was read; none where its data is not of its form, or there is no such command.
 pub fn asked_of(parsed: Parsed) -> Four
@@ -37,7 +37,7 @@ fn fields_of(command: Command) -> Four
         Command::OpenText => no_fields(),
         Command::CloseText => no_fields(),
         Command::PrintText => no_fields(),
-        Command::Open { op, password, till } => open_fields(op, password, till),
+        Command::Open { op, password, till } => operator_fields(op, password, till_item(till)),
         Command::Sell(s) => sale_fields(s),
         Command::Subtotal { print, show } => flags(print, show),
         Command::Pay(p) => pay_fields(p),
@@ -49,6 +49,10 @@ fn fields_of(command: Command) -> Four
         Command::Status => no_fields(),
         Command::Rates => no_fields(),
         Command::ShowText => no_fields(),
+        Command::ChangePassword { op, old, new } => {
+            operator_fields(op, old, password_item(Label::NewPassword, new))
+        }
+        Command::ChangeName { op, password } => operator_fields(op, password, no_item()),
     }
 }
 
@@ -71,28 +75,42 @@ fn alone(first: Item) -> Four
     }
 }
 
-// 48.
-fn open_fields(op: u64, password: Password, till: u64) -> Four
-    ensures { λ r. ⌜ r ≡ openFields op password till ⌝ }
+// 48, 101 and 102: the third of 48 is the till, of 101 the new password.
+fn operator_fields(op: u64, password: Password, third: Item) -> Four
+    ensures { λ r. ⌜ r ≡ operatorFields op password third ⌝ }
 {
+    let second = password_item(Label::Password, password);
     let none = no_item();
     Four {
         first: Item {
             label: Label::Operator,
             value: Value::Number(op),
         },
-        second: Item {
-            label: Label::Password,
-            value: Value::Digits {
-                width: password.digits,
-                number: password.value,
-            },
-        },
-        third: Item {
-            label: Label::TillNumber,
-            value: Value::Number(till),
-        },
+        second,
+        third,
         fourth: none,
+    }
+}
+
+fn till_item(till: u64) -> Item
+    ensures { λ r. ⌜ r ≡ tillItem till ⌝ }
+{
+    Item {
+        label: Label::TillNumber,
+        value: Value::Number(till),
+    }
+}
+
+// As many digits as were sent.
+fn password_item(label: Label, password: Password) -> Item
+    ensures { λ r. ⌜ r ≡ passwordItem label password ⌝ }
+{
+    Item {
+        label,
+        value: Value::Digits {
+            width: password.digits,
+            number: password.value,
+        },
     }
 }
 

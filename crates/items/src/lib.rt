@@ -18,6 +18,7 @@ pub enum Label {
     Data,
     Operator,
     Password,
+    NewPassword,
     TillNumber,
     Group,
     TakenBack,

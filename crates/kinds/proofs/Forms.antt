@@ -5,7 +5,7 @@ use mathlib.Core.List.{List, [], _∷_}
 use Prim.Native.Nat.{ℕ, zero, suc, _+_, _-_, _≤_, _<_}
 use native.Mathlib.Omega.{arith}
 use lib.Dec.{ltb}
-use lib.ListN.{length, getD, take, drop}
+use lib.ListN.{length, getD, take, drop, drop-of-length-le}
 use borrow.Author.Tests.{lt-ltb, le-ltb}
 use Rattle.text.specs.Parts.{firstAt, has, upTo, past}
 use Rattle.text.proofs.Cutting.{place-within, to-end}
@@ -60,3 +60,6 @@ module _ (b : ℕ) (s : List ℕ) (at : ℕ) (e : at ≡ firstAt b s) where
 
   pub behind : take (length s - (at + 1)) (drop (at + 1) s) ≡ past b s
   behind = to-end (at + 1) s ∙ ap (λ n. drop (n + 1) s) e
+
+  pub none-behind : at ≡ length s → [] ≡ past b s
+  none-behind h = sym (drop-of-length-le s {i = at + 1} (omega arith)) ∙ ap (λ n. drop (n + 1) s) e

@@ -2,16 +2,13 @@
 use Prim.Native.Nat.{ℕ}
 use mathlib.Core.Bool.{Bool, true, false, cond, _&&_}
 use mathlib.Core.List.{List, [], _∷_}
-use lib.Dec.{leb, eqb}
+use lib.Dec.{eqb}
 use lib.ListN.{length, getD}
 use Rattle.wire.specs.Bytes.{within}
-use Rattle.text.specs.Parts.{has, upTo, past}
-use Rattle.figures.specs.Numbers.{fieldOf}
 use Rattle.labels.specs.Texts.{isText}
 use Rattle.display.specs.Display.{canShow}
-use Rattle.kinds.specs.Fields.{fieldThen, comma}
 use Rattle.kinds.specs.declared.Command.{Command}
-use Rattle.kinds.specs.declared.Command.the-variants.{PrintText, Open, Subtotal, Sums, Closing, ShowText}
+use Rattle.kinds.specs.declared.Command.the-variants.{PrintText, Subtotal, Sums, Closing, ShowText}
 use Rattle.kinds.specs.declared.Parsed.{Parsed}
 use Rattle.kinds.specs.declared.Parsed.the-variants.{Read, Syntax}
 

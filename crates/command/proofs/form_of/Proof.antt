@@ -13,7 +13,7 @@ returns-3 : tie.Need-returns-3
 returns-3 c = rw (c .before .match .keys3) (c .text .ensures)
 
 returns-4 : tie.Need-returns-4
-returns-4 c = rw (c .before .match .keys4) (c .open-receipt .ensures)
+returns-4 c = rw (c .before .match .keys4) (c .read-fields .ensures)
 
 returns-5 : tie.Need-returns-5
 returns-5 c = rw (c .before .match .keys5) (c .sell .ensures)
@@ -49,14 +49,22 @@ returns-15 : tie.Need-returns-15
 returns-15 c = rw (c .before .match .keys15) (c .show-text .ensures)
 
 returns-16 : tie.Need-returns-16
-returns-16 c =
+returns-16 c = rw (c .before .match .keys16) (c .read-fields2 .ensures)
+
+returns-17 : tie.Need-returns-17
+returns-17 c = rw (c .before .match .keys17) (c .read-fields3 .ensures)
+
+returns-18 : tie.Need-returns-18
+returns-18 c =
     let n = c .before .before .args .code in
-    rw (ne-eqb n 38 (c .match .rest .0 .0 .0 .0 .0 .0 .0 .0 .0 .0 .0 .0 .0 .0 .1), ne-eqb n 39 (c .match .rest .0 .0 .0 .0 .0 .0 .0 .0 .0 .0 .0 .0 .0 .1), ne-eqb n 42 (c .match .rest .0 .0 .0 .0 .0 .0 .0 .0 .0 .0 .0 .0 .1), ne-eqb n 48 (c .match .rest .0 .0 .0 .0 .0 .0 .0 .0 .0 .0 .0 .1), ne-eqb n 49 (c .match .rest .0 .0 .0 .0 .0 .0 .0 .0 .0 .0 .1), ne-eqb n 51 (c .match .rest .0 .0 .0 .0 .0 .0 .0 .0 .0 .1), ne-eqb n 53 (c .match .rest .0 .0 .0 .0 .0 .0 .0 .0 .1), ne-eqb n 56 (c .match .rest .0 .0 .0 .0 .0 .0 .0 .1), ne-eqb n 60 (c .match .rest .0 .0 .0 .0 .0 .0 .1), ne-eqb n 65 (c .match .rest .0 .0 .0 .0 .0 .1), ne-eqb n 69 (c .match .rest .0 .0 .0 .0 .1), ne-eqb n 70 (c .match .rest .0 .0 .0 .1), ne-eqb n 74 (c .match .rest .0 .0 .1), ne-eqb n 97 (c .match .rest .0 .1), ne-eqb n 100 (c .match .rest .1))
+    rw (ne-eqb n 38 (c .match .rest .0 .0 .0 .0 .0 .0 .0 .0 .0 .0 .0 .0 .0 .0 .0 .0 .1), ne-eqb n 39 (c .match .rest .0 .0 .0 .0 .0 .0 .0 .0 .0 .0 .0 .0 .0 .0 .0 .1), ne-eqb n 42 (c .match .rest .0 .0 .0 .0 .0 .0 .0 .0 .0 .0 .0 .0 .0 .0 .1), ne-eqb n 48 (c .match .rest .0 .0 .0 .0 .0 .0 .0 .0 .0 .0 .0 .0 .0 .1), ne-eqb n 49 (c .match .rest .0 .0 .0 .0 .0 .0 .0 .0 .0 .0 .0 .0 .1), ne-eqb n 51 (c .match .rest .0 .0 .0 .0 .0 .0 .0 .0 .0 .0 .0 .1), ne-eqb n 53 (c .match .rest .0 .0 .0 .0 .0 .0 .0 .0 .0 .0 .1), ne-eqb n 56 (c .match .rest .0 .0 .0 .0 .0 .0 .0 .0 .0 .1), ne-eqb n 60 (c .match .rest .0 .0 .0 .0 .0 .0 .0 .0 .1), ne-eqb n 65 (c .match .rest .0 .0 .0 .0 .0 .0 .0 .1), ne-eqb n 69 (c .match .rest .0 .0 .0 .0 .0 .0 .1), ne-eqb n 70 (c .match .rest .0 .0 .0 .0 .0 .1), ne-eqb n 74 (c .match .rest .0 .0 .0 .0 .1), ne-eqb n 97 (c .match .rest .0 .0 .0 .1), ne-eqb n 100 (c .match .rest .0 .0 .1), ne-eqb n 101 (c .match .rest .0 .1), ne-eqb n 102 (c .match .rest .1))
 
 pub form-of-spec : {M : Type 1} → statement M
 form-of-spec =
     tie.close
     (tie.spec
+    (λ c κs. search needs)
+    (λ c κs. search needs)
     (λ c κs. search needs)
     (λ c κs. search needs)
     (λ c κs. search needs)
@@ -87,4 +95,6 @@ form-of-spec =
     returns-13
     returns-14
     returns-15
-    returns-16)
+    returns-16
+    returns-17
+    returns-18)

@@ -1,5 +1,5 @@
 use mathlib.Core.Path.{sym, ap, _∙_}
-use Rattle.items.specs.Asked.{fieldsOf}
+use Rattle.items.specs.Asked.{fieldsOf, operatorFields}
 use borrow.Author.Needs.{needs}
 use Rattle.items.proofs.asked.fields_of.Statement.{statement}
 use Rattle.items.proofs.asked.fields_of.Tie as tie
@@ -14,7 +14,7 @@ returns-3 : tie.Need-returns-3
 returns-3 c = c .no-fields3 .ensures ∙ sym (ap fieldsOf (c .before .enum-told3 .given .1))
 
 returns-4 : tie.Need-returns-4
-returns-4 c = c .open-fields .ensures ∙ sym (ap fieldsOf (c .before .before .command .given .1))
+returns-4 c = c .operator-fields .ensures ∙ ap (operatorFields _ _) (c .before .till-item .ensures) ∙ sym (ap fieldsOf (c .before .before .before .command .given .1))
 
 returns-5 : tie.Need-returns-5
 returns-5 c = c .sale-fields .ensures ∙ sym (ap fieldsOf (c .before .before .command2 .given .1))
@@ -49,6 +49,12 @@ returns-14 c = c .no-fields7 .ensures ∙ sym (ap fieldsOf (c .before .enum-told
 returns-15 : tie.Need-returns-15
 returns-15 c = c .no-fields8 .ensures ∙ sym (ap fieldsOf (c .before .enum-told8 .given .1))
 
+returns-16 : tie.Need-returns-16
+returns-16 c = c .operator-fields2 .ensures ∙ ap (operatorFields _ _) (c .before .password-item .ensures) ∙ sym (ap fieldsOf (c .before .before .before .command8 .given .1))
+
+returns-17 : tie.Need-returns-17
+returns-17 c = c .operator-fields3 .ensures ∙ ap (operatorFields _ _) (c .before .no-item .ensures) ∙ sym (ap fieldsOf (c .before .before .before .command9 .given .1))
+
 pub fields-of-spec : {M : Type 1} → statement M
 fields-of-spec =
     tie.close
@@ -61,7 +67,6 @@ fields-of-spec =
     (λ c κs. search needs)
     (λ c. search needs)
     (λ c κs. search needs)
-    (λ c. search needs)
     (λ c κs. search needs)
     (λ c. search needs)
     (λ c κs. search needs)
@@ -82,6 +87,14 @@ fields-of-spec =
     (λ c. search needs)
     (λ c κs. search needs)
     (λ c. search needs)
+    (λ c κs. search needs)
+    (λ c. search needs)
+    (λ c κs. search needs)
+    (λ c. search needs)
+    (λ c κs. search needs)
+    (λ c κs. search needs)
+    (λ c. search needs)
+    (λ c κs. search needs)
     (λ c κs. search needs)
     returns
     returns-2
@@ -97,4 +110,6 @@ fields-of-spec =
     returns-12
     returns-13
     returns-14
-    returns-15)
+    returns-15
+    returns-16
+    returns-17)

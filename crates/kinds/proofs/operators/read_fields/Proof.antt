@@ -8,13 +8,13 @@ use Rattle.kinds.proofs.Forms.{found-ne, missed-eq, at-most, front, beh
 use Rattle.kinds.specs.Fields.{comma}
 use Rattle.kinds.proofs.Openings.{no-comma, one-comma, two-commas}
 use borrow.Author.Needs.{needs}
-use Rattle.kinds.proofs.plain.open_receipt.Statement.{statement}
-use Rattle.kinds.proofs.plain.open_receipt.Tie as tie
+use Rattle.kinds.proofs.operators.read_fields.Statement.{statement}
+use Rattle.kinds.proofs.operators.read_fields.Tie as tie
 
 returns : tie.Need-returns
 returns c =
     let s = now (c .before .before .before .args .s) in
-    no-comma s (missed-eq comma s (c .before .find .result) (c .before .find .ensures) (c .if1 .taken))
+    no-comma (c .before .before .before .args .third) s (missed-eq comma s (c .before .find .result) (c .before .find .ensures) (c .if1 .taken))
 
 add-next : tie.Need-add-next
 add-next c = omega (arith, at-most comma (now (c .before .before .before .args .s)) (c .before .find .result) (c .before .find .ensures))
@@ -30,7 +30,7 @@ returns-2 c =
     let s = now (c .before .before .before .before .before .before .args .s) in
     let f = c .before .before .before .before .find in
     let r = take (length s - (f .result + 1)) (drop (f .result + 1) s) in
-    one-comma s r (behind comma s (f .result) (f .ensures)) (found-ne comma s (f .result) (f .ensures) (c .before .before .before .if1 .left)) (missed-eq comma r (c .before .find2 .result) (c .before .find2 .ensures) (c .if2 .taken))
+    one-comma (c .before .before .before .before .before .before .args .third) s r (behind comma s (f .result) (f .ensures)) (found-ne comma s (f .result) (f .ensures) (c .before .before .before .if1 .left)) (missed-eq comma r (c .before .find2 .result) (c .before .find2 .ensures) (c .if2 .taken))
 
 add-last : tie.Need-add-last
 add-last c =
@@ -39,25 +39,25 @@ add-last c =
     let r = take (length s - (f .result + 1)) (drop (f .result + 1) s) in
     omega (arith, at-most comma r (c .before .find2 .result) (c .before .find2 .ensures), length-take (length s - (f .result + 1)) (drop (f .result + 1) s), c .before .before .before .before .before .before .good)
 
-slice-aggregate-open-with : tie.Need-slice-aggregate-open-with
-slice-aggregate-open-with c = cut-length comma (now (c .before .before .before .before .before .before .before .args .s)) (c .before .before .before .before .before .find .result) (c .before .before .before .before .before .find .ensures)
+slice-aggregate-read-third : tie.Need-slice-aggregate-read-third
+slice-aggregate-read-third c = cut-length comma (now (c .before .before .before .before .before .before .before .args .s)) (c .before .before .before .before .before .find .result) (c .before .before .before .before .before .find .ensures)
 
-slice-aggregate-open-with-2 : tie.Need-slice-aggregate-open-with-2
-slice-aggregate-open-with-2 c =
+slice-aggregate-read-third-2 : tie.Need-slice-aggregate-read-third-2
+slice-aggregate-read-third-2 c =
     let s = now (c .before .before .before .before .before .before .before .before .args .s) in
     let f = c .before .before .before .before .before .before .find in
     let r = take (length s - (f .result + 1)) (drop (f .result + 1) s) in
     cut-length comma r (c .before .before .before .find2 .result) (c .before .before .before .find2 .ensures)
 
-sub-open-with : tie.Need-sub-open-with
-sub-open-with c =
+sub-read-third : tie.Need-sub-read-third
+sub-read-third c =
     let s = now (c .before .before .before .before .before .before .before .before .args .s) in
     let f = c .before .before .before .before .before .before .find in
     let r = take (length s - (f .result + 1)) (drop (f .result + 1) s) in
     omega (arith, at-most comma r (c .before .before .before .find2 .result) (c .before .before .before .find2 .ensures), c .before .before .if2 .left)
 
-part-open-with-start : tie.Need-part-open-with-start
-part-open-with-start c =
+part-read-third-start : tie.Need-part-read-third-start
+part-read-third-start c =
     let s = now (c .before .before .before .before .before .before .before .before .args .s) in
     let f = c .before .before .before .before .before .before .find in
     let r = take (length s - (f .result + 1)) (drop (f .result + 1) s) in
@@ -71,12 +71,12 @@ returns-3 c =
     let f = first .find in
     let g = second .find2 in
     let r = take (length s - (f .result + 1)) (drop (f .result + 1) s) in
-    c .open-with .ensures
-    ∙ two-commas s r _ _ _ (behind comma s (f .result) (f .ensures)) (found-ne comma s (f .result) (f .ensures) (second .before .before .if1 .left)) (found-ne comma r (g .result) (g .ensures) (c .before .before .before .before .if2 .left))
+    c .read-third .ensures
+    ∙ two-commas (first .before .before .args .third) s r _ _ _ (behind comma s (f .result) (f .ensures)) (found-ne comma s (f .result) (f .ensures) (second .before .before .if1 .left)) (found-ne comma r (g .result) (g .ensures) (c .before .before .before .before .if2 .left))
     (front comma s (f .result) (f .ensures)) (front comma r (g .result) (g .ensures)) (behind comma r (g .result) (g .ensures))
 
-pub open-receipt-spec : {M : Type 1} → statement M
-open-receipt-spec =
+pub read-fields-spec : {M : Type 1} → statement M
+read-fields-spec =
     tie.close
     (tie.spec
     (λ c κs. search needs)
@@ -88,10 +88,10 @@ open-receipt-spec =
     (λ c κs. search needs)
     returns-2
     add-last
-    slice-aggregate-open-with
-    slice-aggregate-open-with-2
-    sub-open-with
-    part-open-with-start
+    slice-aggregate-read-third
+    slice-aggregate-read-third-2
+    sub-read-third
+    part-read-third-start
     (λ c. search needs)
     (λ c κs. search needs)
     returns-3)
