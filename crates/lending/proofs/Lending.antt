@@ -44,7 +44,7 @@ module _ (k : Kept) (frame last buffer display bytes : List ℕ) (n : ℕ) where
       → (made k (e .hearing) ≡ stayedAs k) × ((fs ≡ frame) × ((ls ≡ last) × ((ws ≡ buffer) × (ds ≡ display))))
   few-stay room b fs ds e l ls ws h begins ends =
       let d : Device = k .device in
-      let all : FirstHalf = begunWith (d .books) (listenedTo (d .line) frame bytes) (frameBehind (d .line) frame bytes) display in
+      let all : FirstHalf = begunWith (d .books) (d .guard) (listenedTo (d .line) frame bytes) (frameBehind (d .line) frame bytes) display in
       let none : FirstHalf = record { begun = notBegun d; frame = frame; display = display } in
       let first : _≡_ {A = FirstHalf} (record { begun = b; frame = fs; display = ds }) none
       = begins ∙ ap (λ z. cond (z && leb 40 (length display)) all none) (neither (leb 217 room) (leb 512 n) (lt-leb 512 n h)) in
