@@ -16,29 +16,29 @@ abbrev μ-loop : tie.MeasureT-loop
 loop-holds : tie.Need-loop-holds Inv-loop μ-loop
 loop-holds c = (refl, (sym (c .before .large-buffer .ensures), refl))
 
-returns : tie.Need-returns Inv-loop μ-loop
-returns c = tt
-
-returns-2 : tie.Need-returns-2 Inv-loop μ-loop
-returns-2 c = tt
-
-returns-3 : tie.Need-returns-3 Inv-loop μ-loop
-returns-3 c = tt
-
 add-events : tie.Need-add-events Inv-loop μ-loop
-add-events c =
-    let told = c .before .before .before .before .before .before .before .before in
-    let lent = told .before .before .before .before .before .before .before .before in
-    omega (arith, lent .before .before .before .loop-test .taken)
+add-events c = let fed = c .before .before .before .before in omega (arith, fed .before .before .before .before .loop-test .taken)
 
 loop-less : tie.Need-loop-less Inv-loop μ-loop
-loop-less c =
+loop-less c = let fed = c .before .before .before .before in omega (arith, fed .before .before .before .before .loop-test .taken)
+
+add-events-2 : tie.Need-add-events-2 Inv-loop μ-loop
+add-events-2 c =
     let told = c .before .before .before .before .before .before .before .before in
     let lent = told .before .before .before .before .before .before .before .before in
-    omega (arith, lent .before .before .before .loop-test .taken)
+    omega (arith, lent .before .before .before .before .before .before .loop-test .taken)
 
-returns-4 : tie.Need-returns-4 Inv-loop μ-loop
-returns-4 c = tt
+loop-less-2 : tie.Need-loop-less-2 Inv-loop μ-loop
+loop-less-2 c =
+    let told = c .before .before .before .before .before .before .before .before in
+    let lent = told .before .before .before .before .before .before .before .before in
+    omega (arith, lent .before .before .before .before .before .before .loop-test .taken)
+
+loop-again-2 : tie.Need-loop-again-2 Inv-loop μ-loop
+loop-again-2 c =
+    let told = c .before .before .before .before .before .before .before .before in
+    let lent = told .before .before .before .before .before .before .before .before in
+    (omega (arith, lent .before .before .before .event2 .given), (search needs, search needs))
 
 pub main-spec : {M : Type 1} → statement M
 main-spec =
@@ -51,21 +51,27 @@ main-spec =
     loop-holds
     (λ c. search needs)
     (λ c κs. search needs)
-    (λ c κs. search needs)
-    returns
-    (λ c κs. search needs)
-    (λ c. search needs)
     (λ c. search needs)
     (λ c κs. search needs)
-    (λ c. search needs)
+    (λ c. tt)
     (λ c κs. search needs)
     (λ c κs. search needs)
-    returns-2
-    (λ c. search needs)
-    (λ c κs. search needs)
-    (λ c κs. search needs)
-    returns-3
     add-events
     loop-less
     (λ c. search needs)
-    returns-4)
+    (λ c κs. search needs)
+    (λ c. search needs)
+    (λ c. search needs)
+    (λ c κs. search needs)
+    (λ c. search needs)
+    (λ c κs. search needs)
+    (λ c κs. search needs)
+    (λ c. tt)
+    (λ c. search needs)
+    (λ c κs. search needs)
+    (λ c κs. search needs)
+    (λ c. tt)
+    add-events-2
+    loop-less-2
+    loop-again-2
+    (λ c. tt))
