@@ -7,11 +7,11 @@ use Rattle.printer.proofs.run.Statement.{statement}
 use Rattle.printer.proofs.run.Tie as tie
 
 abbrev Inv-loop : tie.InvT-loop
-Inv-loop ends frame₀ last₀ out₀ bytes₀ kept₀ stage₀ turns₀ frame last out bytes kept stage turns =
+Inv-loop ends₀ frame₀ last₀ out₀ bytes₀ kept₀ stage₀ turns₀ ends frame last out bytes kept stage turns =
     (length out ≡ 3555328) × (length bytes ≡ 16384)
 
 abbrev μ-loop : tie.MeasureT-loop
-μ-loop ends frame₀ last₀ out₀ bytes₀ kept₀ stage₀ turns₀ frame last out bytes kept stage turns = turns
+μ-loop ends₀ frame₀ last₀ out₀ bytes₀ kept₀ stage₀ turns₀ ends frame last out bytes kept stage turns = turns
 
 loop-holds : tie.Need-loop-holds Inv-loop μ-loop
 loop-holds c = (c .before .before .before .out-room .ensures, c .before .before .part-room .ensures)
@@ -34,6 +34,9 @@ run-spec =
     (λ c κs. tt)
     loop-holds
     (λ c. search needs)
+    (λ c κs. tt)
+    (λ c. tt)
+    (λ c κs. tt)
     (λ c κs. tt)
     (λ c. tt)
     (λ c. search needs)
