@@ -45,7 +45,7 @@ raised b m sum h = go (ltb (place m) 4)
     go false = record { day = h .day; groups = h .groups }
 
 done-keeps : (b : Books) (m : Match) (v : View) → Eights b → Eights (ruleOf b m v .after)
-done-keeps b m (Opens p) h = record { day = h .day; groups = refl }
+done-keeps b m Opens h = record { day = h .day; groups = refl }
 done-keeps b m (Sells s) h = record { day = h .day; groups = length-set (b .receipt .groups) (s .group) (groupAfter (b .receipt) s m) ∙ h .groups }
 done-keeps b m (Pays p) h =
     let with-it = withReceipt b (b .opened) (payment b p .receipt) in

@@ -88,7 +88,7 @@ fn with_name(guard: Guard, op: u64, name: &[u8]) -> Guard
         return guard;
     }
     let i = (op - 1) as usize;
-    let n = basics::least_size(name.len(), MOST_NAME);
+    let n = basics::least_size(MOST_NAME, name.len());
     let digits = guard.digits;
     let values = guard.values;
     let mut sizes = guard.sizes;

@@ -98,7 +98,7 @@ closedWith m sums = record { closings = m .closings + 1; total = m .total + sum 
 -- by the views; what the sheet brings a line is what the entries tell
 pub agreeing : (f : Figures) (b : Books) → Says f b → Reached b → (m : Match) (v : View) → m ≡ matchIn (f .receipt .sold) v → Free b m v
     → leftOf (ruleOf b m v .shows) < 10 ^ 10 → Says (after v (contentOf (ruleOf b m v .shows) (b .day) (ruleOf b m v .after)) f) (ruleOf b m v .after)
-agreeing f b h k m (Opens p) told free small =
+agreeing f b h k m Opens told free small =
     record {
       opened = refl;
       receipt = new-receipt;

@@ -62,7 +62,7 @@ left-fits b h m (Pays p) i =
     let small : owed b < 10000000000 = omega (arith, k .total) in
     left-small (leb (owed b) (tendered b p)) (tendered b p) (owed b) (given-small (owed b) (p .tender) small (not-false (tenderHolds (p .tender)) (i .one b m))) small
 left-fits b h m (Asks when shown) i = omega (arith, i .rest)
-left-fits b h m (Opens p) i = omega arith
+left-fits b h m Opens i = omega arith
 left-fits b h m (Sells s) i = omega arith
 left-fits b h m Closes i = omega arith
 left-fits b h m Cancels i = omega arith

@@ -25,11 +25,13 @@ use Rattle.rules.specs.Views.{viewOf}
 use Rattle.rules.specs.declared.views.View.{View}
 use Rattle.rules.specs.declared.views.View.the-variants.{Asks}
 use Rattle.rules.specs.declared.views.When.the-variants.{Always}
-use Rattle.store.specs.Store.{Store, freshStore}
+use Rattle.store.specs.Store.{Store, freshStore, withGuard}
 use Rattle.store.specs.Commands.{placeFor, matchFor, deedOn, leftBy, leftOn}
+use Rattle.deeds.specs.Deeds.{refusedWith}
 use Rattle.deeds.specs.declared.Deed.{Deed}
+use Rattle.guard.specs.declared.Guard.{Guard}
 use Rattle.answers.specs.Contents.{contentOf}
-use Rattle.history.specs.Agrees.{Says, Agrees, toldBooks, LeadsTo, fresh, next}
+use Rattle.history.specs.Agrees.{Says, Agrees, toldBooks, LeadsTo, fresh, next, barred, guarded}
 use Rattle.history.specs.Digits.{Given}
 use Rattle.history.specs.Entries.{Entry, entryOf, isDone, didOf}
 use Rattle.history.specs.History.{receiptTotal, paidSum, receiptAfter, figuresOf, after}
@@ -89,10 +91,21 @@ fresh-agrees sheet room =
 pub history-reached : {es : List Entry} {s : Store} → LeadsTo es s → Reached (s .books)
 history-reached (fresh sheet room) = fresh-reached
 history-reached (next {es} {s} c given past) = reached-stays (s .books) (matchFor s (viewOf c)) c (history-reached past)
+history-reached (barred c past) = history-reached past
+history-reached (guarded g past) = history-reached past
+
+-- a refusal counts for nothing, and the guard is no figure
+pub barred-agrees : (es : List Entry) (s : Store) (c : Command) → Agrees es s → Agrees (entryOf (s .books) c (refusedWith 3 (s .books)) ∷ es) s
+barred-agrees es s c h = record { books = h .books; lines = h .lines; count = h .count; room = h .room }
+
+pub guarded-agrees : (es : List Entry) (s : Store) (g : Guard) → Agrees es s → Agrees es (withGuard s g)
+guarded-agrees es s g h = record { books = h .books; lines = h .lines; count = h .count; room = h .room }
 
 pub history-agrees : {es : List Entry} {s : Store} → LeadsTo es s → Agrees es s
 history-agrees (fresh sheet room) = fresh-agrees sheet room
 history-agrees (next {es} {s} c given past) = agreement-stays es s c (history-reached past) given (history-agrees past)
+history-agrees (barred {es} {s} c past) = barred-agrees es s c (history-agrees past)
+history-agrees (guarded {es} {s} g past) = guarded-agrees es s g (history-agrees past)
 
 -- what is due is never cut off at zero
 pub never-overpaid : (es : List Entry) (s : Store) → Reached (s .books) → Agrees es s → paidSum es ≤ receiptTotal es

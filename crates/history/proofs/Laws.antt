@@ -6,7 +6,6 @@ use native.Mathlib.Omega.{arith}
 use lib.ListN.{length, replicate}
 use Rattle.kinds.specs.declared.Command.{Command}
 use Rattle.kinds.specs.declared.Command.the-variants.{Sell, Closing, Drawer}
-use Rattle.kinds.specs.declared.Password.{Password}
 use Rattle.kinds.specs.declared.Sale.{Sale}
 use Rattle.kinds.specs.declared.Service.{Service}
 use Rattle.kinds.specs.declared.Service.the-variants.{Report, In, Out}
@@ -44,16 +43,16 @@ a-refusal-leaves-the-store s c z =
     rw (same .books, same .note)
 
 -- "Opening a fiscal receipt empties the sheet; otherwise only a line taken changes it."
-emptying : (s : Store) (p : Password) {m : Match} {d : Deed} → Step (s .books) m (Opens p) d → d .number ≡ 0 → d .note ≡ note.Empties
-emptying s p (refused n h) z = absurd (omega (arith, z))
-emptying s p (goes f) z = refl
+emptying : (s : Store) {m : Match} {d : Deed} → Step (s .books) m Opens d → d .number ≡ 0 → d .note ≡ note.Empties
+emptying s (refused n h) z = absurd (omega (arith, z))
+emptying s (goes f) z = refl
 
-pub opening-empties-the-sheet : (s : Store) (p : Password) → deedOn s (Opens p) .number ≡ 0 → leftOn s (Opens p) .sheet ≡ replicate (length (s .sheet)) blank
-opening-empties-the-sheet s p z =
-    ap (noted (s .sheet) (placeFor s (Opens p)) (s .books .receipt .lines)) (emptying s p (judging (s .books) (matchFor s (Opens p)) (Opens p)) z)
+pub opening-empties-the-sheet : (s : Store) → deedOn s Opens .number ≡ 0 → leftOn s Opens .sheet ≡ replicate (length (s .sheet)) blank
+opening-empties-the-sheet s z =
+    ap (noted (s .sheet) (placeFor s Opens) (s .books .receipt .lines)) (emptying s (judging (s .books) (matchFor s Opens) Opens) z)
 
 no-note : (b : Books) (m : Match) (v : View) → does 48 v ≡ false → does 49 v ≡ false → ruleOf b m v .note ≡ note.Nothing
-no-note b m (Opens p) e f = absurd (false≢true (sym e))
+no-note b m Opens e f = absurd (false≢true (sym e))
 no-note b m (Sells s) e f = absurd (false≢true (sym f))
 no-note b m (Pays p) e f = refl
 no-note b m Closes e f = refl

@@ -8,7 +8,6 @@ use lib.ListN.{length, set, length-set}
 use borrow.Author.Tests.{leb-true, lt-leb, le-ltb, not-false}
 use Rattle.kinds.specs.declared.Command.{Command}
 use Rattle.kinds.specs.declared.Mode.{Mode}
-use Rattle.kinds.specs.declared.Password.{Password}
 use Rattle.kinds.specs.declared.Payment.{Payment}
 use Rattle.kinds.specs.declared.Sale.{Sale}
 use Rattle.sheet.specs.declared.Match.{Match}
@@ -109,8 +108,8 @@ never : {A : Type 0} (o : Opened) → fiscalOpen o ≡ true → fiscalOpen o ≡
 never o e f = absurd (false≢true (sym f ∙ e))
 
 pub reaching : (b : Books) → Reached b → (m : Match) (v : View) → Free b m v → Reached (ruleOf b m v .after)
-reaching b h m (Opens p) f =
-    record { fits = step-sound b (h .fits) m (Opens p) f; receipt = empty-receipted; eight-sums = h .eight-sums; four-registers = h .four-registers; blank = λ e. refl }
+reaching b h m Opens f =
+    record { fits = step-sound b (h .fits) m Opens f; receipt = empty-receipted; eight-sums = h .eight-sums; four-registers = h .four-registers; blank = λ e. refl }
 reaching b h m (Sells s) f =
     let l = line-done b m s f in
     record {
@@ -163,8 +162,8 @@ reached-stays b m c h = go (taken b m c)
     go {v} (goes f) = reaching b h m v f
 
 -- in such books 48, 56 and 69 have no reason for 4 (PROTOCOL 8.7)
-pub opening-never-over : (b : Books) (m : Match) (p : Password) → Reached b → ruleOf b m (Opens p) .three ≡ false → ruleOf b m (Opens p) .four ≡ false
-opening-never-over b m p h e = lt-leb 9999 (b .counters .fiscal) (omega (arith, few-receipts b p e, parts b (h .fits) .fiscal))
+pub opening-never-over : (b : Books) (m : Match) → Reached b → ruleOf b m Opens .three ≡ false → ruleOf b m Opens .four ≡ false
+opening-never-over b m h e = lt-leb 9999 (b .counters .fiscal) (omega (arith, few-receipts b e, parts b (h .fits) .fiscal))
 
 pub closing-never-over : (b : Books) (m : Match) → Reached b → ruleOf b m Closes .four ≡ false
 closing-never-over b m h = ap not (parts b (h .fits) .groups)

@@ -161,7 +161,7 @@ module _ (es : List Entry) (s : Store) (k : Reached (s .books)) (h : Agrees es s
 
   pub match-for : (v : View) → matchFor s v ≡ matchIn lines v
   unfolding newest
-  match-for (Opens p) = refl
+  match-for Opens = refl
   match-for (Sells x) = match-told (s .sheet) lines x (searched (s .books)) all-searched (h .lines)
   match-for (Pays p) = refl
   match-for Closes = refl
@@ -185,7 +185,7 @@ module _ (es : List Entry) (s : Store) (k : Reached (s .books)) (h : Agrees es s
   -- by the views: only a 48 and a line change it
   pub sheet-kept : (v : View) (shown : List ℕ) → Free (s .books) (matchFor s v) v
       → Holds (noted (s .sheet) (placeFor s v) (s .books .receipt .lines) (ruleOf (s .books) (matchFor s v) v .note)) (receiptAfter v shown (figuresOf es .receipt) .sold)
-  sheet-kept (Opens p) shown free = tt
+  sheet-kept Opens shown free = tt
   sheet-kept (Sells x) shown free = line-kept x free
   sheet-kept (Pays p) shown free = h .lines
   sheet-kept Closes shown free = tt
@@ -204,7 +204,7 @@ count-more false s ls = refl
 
 pub count-kept : (r : ReceiptTold) → length (r .sold) ≡ r .lines → (v : View) (shown : List ℕ)
     → length (receiptAfter v shown r .sold) ≡ receiptAfter v shown r .lines
-count-kept r e (Opens p) shown = refl
+count-kept r e Opens shown = refl
 count-kept r e (Sells x) shown = omega (arith, count-more (x .minus) x (r .sold))
 count-kept r e (Pays p) shown = e
 count-kept r e Closes shown = refl

@@ -116,7 +116,7 @@ module _ (b : Books) (k : Kept b) where
 
 -- by the views
 staying : (b : Books) → Kept b → (m : Match) (v : View) → Free b m v → Kept (ruleOf b m v .after)
-staying b k m (Opens p) f =
+staying b k m Opens f =
     counters-kept (withReceipt b opened.Fiscal emptyReceipt) (receipt-kept b k opened.Fiscal emptyReceipt (empty-in b k) (omega arith)) _ (omega (arith, k .fiscal)) (omega (arith, few-receipts b p (f .three)))
 staying b k m (Sells s) f =
     let l = line-done b m s f in

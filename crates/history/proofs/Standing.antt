@@ -39,7 +39,7 @@ module _ (x : Sale) (ls : List Line) (g sum : ℕ) where
 
 sums-after : (r : ReceiptTold) (g : ℕ) → r .sums g ≡ worthOf g (r .sold) → (v : View) (shown : List ℕ)
     → receiptAfter v shown r .sums g ≡ worthOf g (receiptAfter v shown r .sold)
-sums-after r g e (Opens p) shown = refl
+sums-after r g e Opens shown = refl
 sums-after r g e (Sells x) shown = line-worth x (r .sold) g (r .sums g) (x .minus) (eqb (x .group) g) e (worth-less x g (r .sold))
 sums-after r g e (Pays p) shown = e
 sums-after r g e Closes shown = refl
@@ -63,7 +63,7 @@ worth-covers x ls false = omega arith
 -- while the receipt is the same, its lines stay in their places, and each is as it was or is taken back
 line-after : (r : ReceiptTold) (v : View) (shown : List ℕ) → isAnother v ≡ false → (i : ℕ) → i < length (r .sold)
     → (i < length (receiptAfter v shown r .sold)) × SameOrBack (lineAt i (receiptAfter v shown r .sold)) (lineAt i (r .sold))
-line-after r (Opens p) shown e i lt = absurd (false≢true (sym e))
+line-after r Opens shown e i lt = absurd (false≢true (sym e))
 line-after r (Sells x) shown e i lt = (omega (arith, count-more (x .minus) x (r .sold)), subst (λ l. SameOrBack l (lineAt i (r .sold))) (sym older) (go (x .minus)))
   where
     older : lineAt i (soldAfter (r .sold) x) ≡ lineAt i (cond (x .minus) (withoutNewest x (r .sold)) (r .sold))
@@ -126,7 +126,7 @@ module _ (e : Entry) (es : List Entry) (older : (i : ℕ) → i < length (linesI
           stands
 
   added-by : (v : View) → didOf e ≡ v → (i : ℕ) → i < length (now v) → lineAt i (now v) .stands ≡ true → AddedBy (lineAt i (now v)) (e ∷ es)
-  added-by (Opens p) is i lt stands = absurd (omega arith)
+  added-by Opens is i lt stands = absurd (omega arith)
   added-by (Sells x) is i lt stands = sold-line x is i lt stands
   added-by (Pays p) is i lt stands = stays-added (Pays p) is refl i lt stands
   added-by Closes is i lt stands = absurd (omega arith)
@@ -201,7 +201,7 @@ one-more x ls off added false e found = omega arith
 -- by the views; a line with `-` is done only where one is found
 pub counted : (es : List Entry) → standing (linesIn es) + linesOff es ≡ linesAdded es → (v : View) (shown : List ℕ)
     → ((x : Sale) → v ≡ Sells x → x .minus ≡ true → newestLike x (linesIn es) .found ≡ true) → Counted es v shown
-counted es e (Opens p) shown found = refl
+counted es e Opens shown found = refl
 counted es e (Sells x) shown found = one-more x (linesIn es) (linesOff es) (linesAdded es) (x .minus) e (found x refl)
 counted es e (Pays p) shown found = omega arith
 counted es e Closes shown found = refl

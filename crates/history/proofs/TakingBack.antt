@@ -26,7 +26,7 @@ use Rattle.deeds.specs.Deeds.{judged}
 use Rattle.deeds.specs.declared.Deed.{Deed}
 use Rattle.store.specs.Commands.{matchFor, deedOn}
 use Rattle.store.specs.Store.{Store}
-use Rattle.history.specs.Agrees.{Agrees, LeadsTo, fresh, next}
+use Rattle.history.specs.Agrees.{Agrees, LeadsTo, fresh, next, barred, guarded}
 use Rattle.history.specs.Digits.{Given}
 use Rattle.history.specs.Entries.{Entry, entryOf, isDone}
 use Rattle.history.specs.History.{figuresOf}
@@ -105,6 +105,8 @@ each-takes-one-back (fresh sheet room) = refl
 each-takes-one-back (next {es} {s} c given past) =
     counted-next es s (history-reached past) (history-agrees past) (each-takes-one-back past) (viewOf c) (entryOf (s .books) c (deedOn s (viewOf c)) .shown)
     (judging (s .books) (matchFor s (viewOf c)) (viewOf c))
+each-takes-one-back (barred c past) = omega (arith, each-takes-one-back past)
+each-takes-one-back (guarded g past) = each-takes-one-back past
 
 -- each of the eight sums is what the lines of its group that stand come to, whatever the entries are
 pub the-sums-are-what-stands : (es : List Entry) (g : ℕ) → figuresOf es .receipt .sums g ≡ worthOf g (linesIn es)

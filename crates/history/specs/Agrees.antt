@@ -14,7 +14,9 @@ use Rattle.sheet.specs.declared.Line.{Line}
 use Rattle.receipt.specs.declared.Receipt.{Receipt}
 use Rattle.rules.specs.Views.{viewOf}
 use Rattle.store.specs.Commands.{deedOn, leftOn}
-use Rattle.store.specs.Store.{Store, freshStore}
+use Rattle.guard.specs.declared.Guard.{Guard}
+use Rattle.deeds.specs.Deeds.{refusedWith}
+use Rattle.store.specs.Store.{Store, freshStore, withGuard}
 use Rattle.history.specs.Digits.{Given}
 use Rattle.history.specs.Entries.{Entry, entryOf}
 use Rattle.history.specs.Sold.{Holds}
@@ -82,3 +84,7 @@ pub data LeadsTo : List Entry → Store → Type 0 where
   fresh : (sheet : List Line) → 512 ≤ length sheet → LeadsTo [] (freshStore sheet)
   next : {es : List Entry} {s : Store} (c : Command) → Given (viewOf c) → LeadsTo es s
       → LeadsTo (entryOf (s .books) c (deedOn s (viewOf c)) ∷ es) (leftOn s (viewOf c))
+  -- PROTOCOL 5.20: a command that the guard does not let pass is 3
+  barred : {es : List Entry} {s : Store} (c : Command) → LeadsTo es s → LeadsTo (entryOf (s .books) c (refusedWith 3 (s .books)) ∷ es) s
+  -- PROTOCOL 5.20, 8.9: whatever becomes of the guard, with a command or by switching on anew: what is told here does not rest on it
+  guarded : {es : List Entry} {s : Store} (g : Guard) → LeadsTo es s → LeadsTo es (withGuard s g)

@@ -36,7 +36,7 @@ didOf e = cond (isDone (e .number)) (viewOf (e .command)) (Asks Always Nothing)
 
 -- PROTOCOL 5.1: the code of what changes the books; 0 where nothing changes
 abbrev pub codeOf : View → ℕ
-codeOf (Opens password) = 48
+codeOf Opens = 48
 codeOf (Sells s) = 49
 codeOf (Pays p) = 53
 codeOf Closes = 56
@@ -54,7 +54,7 @@ does code v = eqb (codeOf v) code
 -- what a payment, 70 with an amount, and a command that only asks hold; of every other view `none` (of a line: `ofSale` of the views)
 module _ {A : Type 0} (none : A) where
   abbrev pub ofPayment : (Payment → A) → View → A
-  ofPayment f (Opens password) = none
+  ofPayment f Opens = none
   ofPayment f (Sells s) = none
   ofPayment f (Pays p) = f p
   ofPayment f Closes = none
@@ -67,7 +67,7 @@ module _ {A : Type 0} (none : A) where
   ofPayment f (Asks when shown) = none
 
   abbrev pub ofService : (puts takes : ℕ → A) → View → A
-  ofService f g (Opens password) = none
+  ofService f g Opens = none
   ofService f g (Sells s) = none
   ofService f g (Pays p) = none
   ofService f g Closes = none
@@ -80,7 +80,7 @@ module _ {A : Type 0} (none : A) where
   ofService f g (Asks when shown) = none
 
   abbrev pub ofAsked : (Shown → A) → View → A
-  ofAsked f (Opens password) = none
+  ofAsked f Opens = none
   ofAsked f (Sells s) = none
   ofAsked f (Pays p) = none
   ofAsked f Closes = none

@@ -6,12 +6,11 @@ use native.Mathlib.Omega.{arith}
 use lib.Dec.{ltb}
 use borrow.Author.Tests.{lt-leb, le-leb, leb-true, leb-false, ltb-false, not-false}
 pub use Rattle.basics.proofs.Tests.{none-of}
-use Rattle.kinds.specs.declared.Password.{Password}
 use Rattle.sheet.specs.Sheet.{noMatch}
 use Rattle.books.specs.Books.{anyOpen}
 use Rattle.books.specs.Sound.{inTwelve}
 use Rattle.books.specs.declared.Books.{Books}
-use Rattle.rules.specs.Reasons.{isRight, full, manyOpened}
+use Rattle.rules.specs.Reasons.{full, manyOpened}
 use Rattle.rules.specs.Rules.{ruleOf}
 use Rattle.rules.specs.declared.views.View.the-variants.{Opens, OpensText, Puts, Takes}
 
@@ -39,10 +38,9 @@ fits-still s n e = leb-true (s + n) 999999999999 (not-false (inTwelve (s + n)) e
 pub few-texts : (b : Books) → ruleOf b noMatch OpensText .three ≡ false → b .counters .all < 9999
 few-texts b e = leb-false 9999 (b .counters .all) (none-of (anyOpen (b .opened)) (manyOpened b) e .1)
 
-pub few-receipts : (b : Books) (p : Password) → ruleOf b noMatch (Opens p) .three ≡ false → b .counters .all < 9999
-few-receipts b p e =
-    let asked = not (isRight p) || anyOpen (b .opened) in
-    leb-false 9999 (b .counters .all) (none-of asked (manyOpened b) (none-of (asked || manyOpened b) (full b) e .0) .1)
+pub few-receipts : (b : Books) → ruleOf b noMatch Opens .three ≡ false → b .counters .all < 9999
+few-receipts b e =
+    leb-false 9999 (b .counters .all) (none-of (anyOpen (b .opened)) (manyOpened b) (none-of (anyOpen (b .opened) || manyOpened b) (full b) e .0) .1)
 
 -- 70 where it is permitted: cash and In, or Out, take the amount
 pub puts-within : (b : Books) (n : ℕ) → ruleOf b noMatch (Puts n) .four ≡ false → (b .drawer .cash + n ≤ 999999999999) × (b .drawer .put + n ≤ 999999999999)

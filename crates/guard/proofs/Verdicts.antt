@@ -1,0 +1,127 @@
+-- What the guard says, as the code's branches ask it.
+use mathlib.Core.Path.{_≡_, refl, sym, ap, _∙_}
+use mathlib.Core.Bool.{Bool, true, false, cond, _&&_, _||_, false≢true}
+use mathlib.Core.List.{List, [], _∷_}
+use Prim.Native.Nat.{ℕ, zero, suc, _+_, _-_, _*_, _≤_, _<_, min}
+use native.Mathlib.Omega.{arith}
+use lib.Dec.{leb, ltb}
+use lib.ListN.{length, take, set, length-take}
+use lib.Seq.{sets}
+use borrow.Author.Tests.{ltb-true, ltb-false, leb-false, le-leb, lt-leb}
+use Rattle.basics.proofs.Tests.{and-true, none-of}
+use Rattle.kinds.specs.declared.Command.{Command}
+use Rattle.kinds.specs.declared.Command.the-variants.{OpenText, CloseText, PrintText, Open, Sell, Subtotal, Pay, Close, Cancel, Sums, Closing, Drawer, Status, Rates, ShowText, ChangePassword, ChangeName}
+use Rattle.guard.specs.Guard.{isOp, isLocked, isRight, trialOf, verdictOf, changedBy, withCount, withName, judgedOf}
+use Rattle.kinds.specs.declared.Password.{Password}
+use Rattle.guard.specs.declared.Guard.{Guard}
+use Rattle.guard.specs.declared.Judged.{Judged}
+use Rattle.guard.specs.declared.Trial.{Trial}
+use Rattle.guard.specs.declared.Trial.the-variants as trial
+use Rattle.guard.specs.declared.Verdict.{Verdict}
+use Rattle.guard.specs.declared.Verdict.the-variants.{Free, Right, Wrong, Locked}
+
+-- an operator, as the code tests it
+module _ (op : ℕ) where
+  pub op-within : ltb op 1 || ltb 8 op ≡ false → (1 ≤ op) × (op ≤ 8)
+  op-within e =
+      let parts = none-of (ltb op 1) (ltb 8 op) e in
+      (ltb-false op 1 (parts .0), ltb-false 8 op (parts .1))
+
+  pub an-op : ltb op 1 || ltb 8 op ≡ false → isOp op ≡ true
+  an-op e = let h = op-within e in and-true (leb 1 op) (leb op 8) (le-leb 1 op (h .0)) (le-leb op 8 (h .1))
+
+  one-side : (a : Bool) → ltb op 1 ≡ a → a || ltb 8 op ≡ true → isOp op ≡ false
+  one-side true f e = ap (λ z. z && leb op 8) (lt-leb 1 op (ltb-true op 1 f))
+  one-side false f e = ap (λ z. leb 1 op && z) (lt-leb op 8 (ltb-true 8 op e)) ∙ never (leb 1 op)
+    where
+      never : (a : Bool) → a && false ≡ false
+      never true = refl
+      never false = refl
+
+  pub no-op : ltb op 1 || ltb 8 op ≡ true → isOp op ≡ false
+  no-op e = one-side (ltb op 1) refl e
+
+abbrev isFree : Verdict → Bool
+isFree Free = true
+isFree Right = false
+isFree Wrong = false
+isFree Locked = false
+
+abbrev isWrong : Verdict → Bool
+isWrong Free = false
+isWrong Right = false
+isWrong Wrong = true
+isWrong Locked = false
+
+not-free : (a b : Bool) → isFree (cond a Locked (cond b Right Wrong)) ≡ true → ⊥
+not-free true b e = false≢true e
+not-free false true e = false≢true e
+not-free false false e = false≢true e
+
+-- a command that tries no password changes nothing in the guard
+pub free-changes-nothing : (g : Guard) (c : Command) (content : List ℕ) → verdictOf g (trialOf c) ≡ Free → changedBy g c content ≡ g
+free-changes-nothing g (ChangePassword op old new) content e = absurd (not-free (isLocked g) (isRight g op old) (ap isFree e))
+free-changes-nothing g (ChangeName op password) content e = absurd (not-free (isLocked g) (isRight g op password) (ap isFree e))
+free-changes-nothing g (Open op password till) content e = refl
+free-changes-nothing g OpenText content e = refl
+free-changes-nothing g CloseText content e = refl
+free-changes-nothing g PrintText content e = refl
+free-changes-nothing g (Sell s) content e = refl
+free-changes-nothing g (Subtotal print show) content e = refl
+free-changes-nothing g (Pay p) content e = refl
+free-changes-nothing g Close content e = refl
+free-changes-nothing g Cancel content e = refl
+free-changes-nothing g (Sums taxes) content e = refl
+free-changes-nothing g (Closing clears) content e = refl
+free-changes-nothing g (Drawer s) content e = refl
+free-changes-nothing g Status content e = refl
+free-changes-nothing g Rates content e = refl
+free-changes-nothing g ShowText content e = refl
+
+-- a password is wrong only where the device is not locked
+wrong-open : (locked right : Bool) → isWrong (cond locked Locked (cond right Right Wrong)) ≡ true → locked ≡ false
+wrong-open true right e = absurd (false≢true e)
+wrong-open false right e = refl
+
+pub wrong-few : (g : Guard) (t : Trial) → verdictOf g t ≡ Wrong → g .wrong < 3
+wrong-few g trial.Nothing e = absurd (false≢true (ap isWrong e))
+wrong-few g (trial.By op p) e = leb-false 3 (g .wrong) (wrong-open (isLocked g) (isRight g op p) (ap isWrong e))
+
+-- the verdict on a trial, a branch of the code each
+module _ (g : Guard) (t : Trial) (op : ℕ) (p : Password) (by : t ≡ trial.By op p) where
+  pub locked-verdict : 3 ≤ g .wrong → Locked ≡ verdictOf g t
+  locked-verdict h = rw (by, le-leb 3 (g .wrong) h)
+
+  pub right-verdict : g .wrong < 3 → isRight g op p ≡ true → Right ≡ verdictOf g t
+  right-verdict h e = rw (by, lt-leb 3 (g .wrong) h, e)
+
+  pub wrong-verdict : g .wrong < 3 → isRight g op p ≡ false → Wrong ≡ verdictOf g t
+  wrong-verdict h e = rw (by, lt-leb 3 (g .wrong) h, e)
+
+-- what is judged by each verdict
+module _ (g : Guard) (c : Command) (content : List ℕ) where
+  pub judged-free : verdictOf g (trialOf c) ≡ Free → _≡_ {A = Judged} (record { guard = g; passes = true }) (judgedOf g c content)
+  judged-free e = rw (e, free-changes-nothing g c content e)
+
+  pub judged-right : verdictOf g (trialOf c) ≡ Right → _≡_ {A = Judged} (record { guard = withCount (changedBy g c content) 0; passes = true }) (judgedOf g c content)
+  judged-right e = rw e
+
+  pub judged-wrong : verdictOf g (trialOf c) ≡ Wrong → _≡_ {A = Judged} (record { guard = withCount g (g .wrong + 1); passes = false }) (judgedOf g c content)
+  judged-wrong e = rw e
+
+  pub judged-locked : verdictOf g (trialOf c) ≡ Locked → _≡_ {A = Judged} (record { guard = g; passes = false }) (judgedOf g c content)
+  judged-locked e = rw e
+
+-- a name is put at its place, cut at 24 bytes
+take-own : (n : ℕ) (l : List ℕ) → take (length (take n l)) l ≡ take n l
+take-own zero l = refl
+take-own (suc n) [] = refl
+take-own (suc n) (x ∷ l) = ap (λ z. x ∷ z) (take-own n l)
+
+pub named : (g : Guard) (op : ℕ) (name : List ℕ) (n : ℕ) (names : List ℕ) → isOp op ≡ true → n ≡ min 24 (length name) → names ≡ sets (g .names) (24 * (op - 1)) (take (n - 0) name)
+    → _≡_ {A = Guard} (record { digits = g .digits; values = g .values; sizes = set (g .sizes) (op - 1) n; names = names; wrong = g .wrong }) (withName g op name)
+named g op name n names is e f =
+    let size = e ∙ sym (length-take 24 name) in
+    let all : n - 0 ≡ n = omega arith in
+    let cut = ap (λ k. take k name) (all ∙ size) ∙ take-own 24 name in
+    rw (f, cut, size, is)
