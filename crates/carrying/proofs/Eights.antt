@@ -30,6 +30,7 @@ use Rattle.deeds.specs.declared.Deed.{Deed}
 use Rattle.answers.specs.Contents.{contentOf}
 use Rattle.answers.specs.Status.{statusOf}
 use Rattle.answers.proofs.Shown.{shown-short, status-six}
+use Rattle.guard.specs.Guard.{judgedBy}
 use Rattle.store.specs.Store.{Store}
 use Rattle.carrying.specs.Carrying.{searchIn, deedFor, carry}
 
@@ -72,27 +73,31 @@ deed-keeps b m v h = go (rule .one) (rule .three) (rule .four)
     go false false true = h
     go false false false = done-keeps b m v h
 
-pub eights-stay : (b : Books) (m : Match) (p : Parsed) → Eights b → Eights (deedFor b m p .books)
-eights-stay b m (Read c) h = deed-keeps b m (viewOf c) h
-eights-stay b m Syntax h = h
-eights-stay b m Unknown h = h
+pub eights-stay : (b : Books) (m : Match) (passes : Bool) (p : Parsed) → Eights b → Eights (deedFor b m passes p .books)
+eights-stay b m true (Read c) h = deed-keeps b m (viewOf c) h
+eights-stay b m false (Read c) h = h
+eights-stay b m passes Syntax h = h
+eights-stay b m passes Unknown h = h
 
 pub carry-keeps : (s : Store) (m : Message) → Eights (s .books) → Eights (carry s m .store .books)
-carry-keeps s m h = let p = parsedOf (m .code) (m .content) in eights-stay (s .books) (matchOf (s .sheet) (searchIn (s .books) p)) p h
+carry-keeps s m h =
+    let p = parsedOf (m .code) (m .content) in
+    eights-stay (s .books) (matchOf (s .sheet) (searchIn (s .books) p)) (judgedBy (s .guard) p (m .content) .passes) p h
 
 -- and the sheet its length
 pub carry-lines : (s : Store) (m : Message) → length (carry s m .store .sheet) ≡ length (s .sheet)
 carry-lines s m =
     let p = parsedOf (m .code) (m .content) in
     let q = searchIn (s .books) p in
-    noted-length (deedFor (s .books) (matchOf (s .sheet) q) p .note) (s .sheet) (placeOf (s .sheet) q) (s .books .receipt .lines)
+    noted-length (deedFor (s .books) (matchOf (s .sheet) q) (judgedBy (s .guard) p (m .content) .passes) p .note) (s .sheet) (placeOf (s .sheet) q) (s .books .receipt .lines)
 
 pub answer-few : (s : Store) (m : Message) → Eights (s .books) → length (carry s m .answer) ≤ 217
 answer-few s m h =
     let b = s .books in
     let p = parsedOf (m .code) (m .content) in
-    let d : Deed = deedFor b (matchOf (s .sheet) (searchIn b p)) p in
-    let k : Eights (d .books) = eights-stay b (matchOf (s .sheet) (searchIn b p)) p h in
+    let passes = judgedBy (s .guard) p (m .content) .passes in
+    let d : Deed = deedFor b (matchOf (s .sheet) (searchIn b p)) passes p in
+    let k : Eights (d .books) = eights-stay b (matchOf (s .sheet) (searchIn b p)) passes p h in
     let content = contentOf (d .shown) (b .day) (d .books) in
     let status = statusOf (d .number) (d .books) in
     omega (arith, length-enclosed (m .seq) (m .code) (content ++ 0x04 ∷ status), length-append content (0x04 ∷ status), status-six (d .number) (d .books), shown-short (b .day) (d .books) (d .shown) (h .day) (k .day) (k .groups))

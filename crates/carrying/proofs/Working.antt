@@ -1,6 +1,6 @@
 -- Laws of a command carried out: the answer's data put in its place, the frame around it, and what the books did as the device's work.
 use mathlib.Core.Path.{_≡_, refl, sym, ap, _∙_}
-use mathlib.Core.Bool.{cond}
+use mathlib.Core.Bool.{Bool, cond}
 use mathlib.Core.List.{List, _∷_, _++_}
 use Prim.Native.Nat.{ℕ, _+_, _≤_, _<_}
 use native.Mathlib.Omega.{arith}
@@ -73,12 +73,12 @@ work-is b seq code d size l b2 es e2 =
     λ i. record { work = record { number = d .number; books = d .books; count = es i; note = d .note }; buffer = e2 i }
 
 -- with the buffer's length known
-module _ (b : Books) (m : Match) (seq code : ℕ) (p : Parsed) (l : List ℕ) where
+module _ (b : Books) (m : Match) (seq code : ℕ) (passes : Bool) (p : Parsed) (l : List ℕ) where
   abbrev short : Worked
   short = record { work = record { number = 7; books = b; count = 0; note = Nothing }; buffer = l }
 
-  pub worked-short : length l < 217 → short ≡ worked b m seq code p l
-  worked-short h = sym (ap (λ z. cond z short (workDone b seq code (deedFor b m p) l)) (lt-ltb (length l) 217 h))
+  pub worked-short : length l < 217 → short ≡ worked b m seq code passes p l
+  worked-short h = sym (ap (λ z. cond z short (workDone b seq code (deedFor b m passes p) l)) (lt-ltb (length l) 217 h))
 
-  pub worked-long : 217 ≤ length l → workDone b seq code (deedFor b m p) l ≡ worked b m seq code p l
-  worked-long h = sym (ap (λ z. cond z short (workDone b seq code (deedFor b m p) l)) (le-ltb (length l) 217 h))
+  pub worked-long : 217 ≤ length l → workDone b seq code (deedFor b m passes p) l ≡ worked b m seq code passes p l
+  worked-long h = sym (ap (λ z. cond z short (workDone b seq code (deedFor b m passes p) l)) (le-ltb (length l) 217 h))

@@ -10,7 +10,7 @@ use Rattle.carrying.proofs.carry_out.Tie as tie
 returns : tie.Need-returns
 returns c =
     let a = c .before .before .args in
-    (worked-short (a .books) (a .m) (a .seq) (a .code) (a .parsed) (now (a .buf)) (c .if1 .taken), omega arith)
+    (worked-short (a .books) (a .m) (a .seq) (a .code) (a .passes) (a .parsed) (now (a .buf)) (c .if1 .taken), omega arith)
 
 returns-2 : tie.Need-returns-2
 returns-2 c =
@@ -19,7 +19,7 @@ returns-2 c =
     let a = deed .before .before .before .args in (
       made .answer .ensures .0
           ∙ ap (λ z. workDone (a .books) (a .seq) (a .code) z (now (a .buf))) (deed .deed-for .ensures)
-          ∙ worked-long (a .books) (a .m) (a .seq) (a .code) (a .parsed) (now (a .buf)) (deed .before .if1 .left),
+          ∙ worked-long (a .books) (a .m) (a .seq) (a .code) (a .passes) (a .parsed) (now (a .buf)) (deed .before .if1 .left),
       made .answer .ensures .1,
     )
 
