@@ -54,17 +54,17 @@ module _ (b : Begun) (at : ℕ) (found : Line) (last buffer : List ℕ) where
       ∙ asked Again c
 
   pub end-order : (s c n : ℕ) (made : SecondHalf)
-      → made ≡ carriedBehind b s c at found last (worked (b .device .books) (matchAt at (b .lines) found) s c (b .parsed) buffer) → b .call ≡ Order s c n
+      → made ≡ carriedBehind b s c at found last (worked (b .device .books) (matchAt at (b .lines) found) s c (b .passes) (b .parsed) buffer) → b .call ≡ Order s c n
       → made ≡ endingAs (b .call) b at found last buffer
   end-order s c n made em e = em ∙ asked (Order s c n) e
 
   -- an order carried out and kept
   pub order-is : (seq code : ℕ) (m : Match) (w : Work) (last' buffer' : List ℕ) (e : Ended) → m ≡ matchAt at (b .lines) found
-      → record { work = w; buffer = buffer' } ≡ worked (b .device .books) m seq code (b .parsed) buffer
+      → record { work = w; buffer = buffer' } ≡ worked (b .device .books) m seq code (b .passes) (b .parsed) buffer
       → last' ≡ sets last 0 (take (w .count - 0) (drop 0 buffer')) → e ≡ handsBack b seq code w at found
-      → record { ended = e; last = last'; buffer = buffer' } ≡ carriedBehind b seq code at found last (worked (b .device .books) (matchAt at (b .lines) found) seq code (b .parsed) buffer)
+      → record { ended = e; last = last'; buffer = buffer' } ≡ carriedBehind b seq code at found last (worked (b .device .books) (matchAt at (b .lines) found) seq code (b .passes) (b .parsed) buffer)
   order-is seq code m w last' buffer' e em ew el ee =
       let off : w .count - 0 ≡ w .count = omega arith in
       ap (λ z. record { ended = z; last = last'; buffer = buffer' }) ee
       ∙ ap (λ z. record { ended = handsBack b seq code w at found; last = z; buffer = buffer' }) (el ∙ ap (λ k. sets last 0 (take k buffer')) off)
-      ∙ ap (carriedBehind b seq code at found last) (ew ∙ ap (λ z. worked (b .device .books) z seq code (b .parsed) buffer) em)
+      ∙ ap (carriedBehind b seq code at found last) (ew ∙ ap (λ z. worked (b .device .books) z seq code (b .passes) (b .parsed) buffer) em)

@@ -37,6 +37,7 @@ use Rattle.machine.specs.declared.Begun.{Begun}
 use Rattle.machine.specs.declared.Device.{Device}
 use Rattle.machine.proofs.Room.{long}
 use Rattle.machine.proofs.Working.{front-stands}
+use Rattle.guard.specs.Guard.{judgedBy}
 use Rattle.machine.proofs.Parts.{at, halves, two-halves, part-long}
 
 module _ (d : Device) (last buffer display : List ℕ) (sheet : List Line) where
@@ -45,14 +46,14 @@ module _ (d : Device) (last buffer display : List ℕ) (sheet : List Line) where
 
   -- the device behind what was listened to
   abbrev here : Port → List ℕ → Machine
-  here = at (d .books) last sheet lent
+  here = at (d .books) (d .guard) last sheet lent
 
   module _ (room : 217 ≤ length buffer) (line : Port) (taken : ℕ) (frame : List ℕ) where
     abbrev heard : Call → Listened
     heard c = record { line = line; call = c; taken = taken }
 
     abbrev firstHalf : Call → FirstHalf
-    firstHalf c = begunWith (d .books) (heard c) frame display
+    firstHalf c = begunWith (d .books) (d .guard) (heard c) frame display
 
     abbrev found : Call → ℕ
     found c = searchedAt (firstHalf c) sheet
@@ -65,7 +66,7 @@ module _ (d : Device) (last buffer display : List ℕ) (sheet : List Line) where
         → putTogether (firstHalf c) (endedWith (firstHalf c .begun) number (found c) (getD sheet (found c) blank) last buffer bytes) sheet
         ≡ record {
           after = record {
-            machine = here line frame;
+            machine = record { device = firstHalf c .begun .device; frame = frame; last = last; sheet = sheet };
             lent = record { buffer = sets buffer 0 bytes; lines = length sheet; display = firstHalf c .display };
             number = number;
             count = length bytes;
@@ -86,11 +87,12 @@ module _ (d : Device) (last buffer display : List ℕ) (sheet : List Line) where
         let b : Begun = firstHalf c .begun in
         let p : Parsed = parsedOf code (take n (drop 3 frame)) in
         let q : Search = searchIn (d .books) p in
-        let deed : Deed = deedFor (d .books) (matchOf sheet q) p in
+        let passes : Bool = judgedBy (d .guard) p (take n (drop 3 frame)) .passes in
+        let deed : Deed = deedFor (d .books) (matchOf sheet q) passes p in
         let answer : List ℕ = answerBytes (d .books) seq code deed in
         let i : ℕ = placeOf sheet q in
         let l : Line = getD sheet i blank in
-        let done : worked (d .books) (matchOf sheet q) seq code p buffer ≡ workDone (d .books) seq code deed buffer = sym (worked-long (d .books) (matchOf sheet q) seq code p buffer room) in
+        let done : worked (d .books) (matchOf sheet q) seq code passes p buffer ≡ workDone (d .books) seq code deed buffer = sym (worked-long (d .books) (matchOf sheet q) seq code passes p buffer room) in
         let short : length answer ≤ 217 = subst (λ (w : Worked). w .work .count ≤ 217) done few in
         let by : Worked → PartHeard = λ w. putTogether (firstHalf c) (carriedBehind b seq code i l last w) sheet in
         let result = carriedBehind b seq code i l last (workDone (d .books) seq code deed buffer) in
@@ -116,7 +118,7 @@ module _ (d : Device) (last buffer display : List ℕ) (sheet : List Line) where
     kept = frameBehind (d .line) frame bytes
 
     abbrev first : Bool → FirstHalf
-    first long = cond long (begunWith (d .books) x kept display) (record { begun = notBegun d; frame = frame; display = display })
+    first long = cond long (begunWith (d .books) (d .guard) x kept display) (record { begun = notBegun d; frame = frame; display = display })
 
     unheard : goingOn (first false) last buffer sheet ≡ record { after = notTaken machine lent; call = Quiet; taken = 0 }
     unheard =
@@ -133,7 +135,7 @@ module _ (d : Device) (last buffer display : List ℕ) (sheet : List Line) where
         = ap (λ z. cond z (endingAs (x .call) (f .begun) i l last buffer) (endedWith (f .begun) 7 i l last buffer [])) e in
         ap (λ z. putTogether f z sheet) so
         ∙ by-call room (x .line) (x .taken) kept (x .call) (subst (λ (z : SecondHalf). z .ended .hearing .given .count ≤ 217) so few)
-        ∙ two-halves (d .books) last sheet lent bytes (d .line) frame
+        ∙ two-halves (d .books) (d .guard) last sheet lent bytes (d .line) frame
 
     pub joined : together d frame last buffer display sheet bytes .after .count ≤ 217 → together d frame last buffer display sheet bytes ≡ afterPart machine lent bytes
     joined = go (enough lent) refl

@@ -16,6 +16,9 @@ use Rattle.line.specs.Listening.{listenedTo, frameBehind}
 use Rattle.line.specs.declared.Call.{Call}
 use Rattle.line.specs.declared.Call.the-variants.{Order}
 use Rattle.line.specs.declared.Listened.{Listened}
+use Rattle.guard.specs.Guard.{judgedBy}
+use Rattle.guard.specs.declared.Guard.{Guard}
+use Rattle.guard.specs.declared.Judged.{Judged}
 use Rattle.carrying.specs.Carrying.{searchIn}
 use Rattle.machine.specs.Beginning.{longEnough, asking, textsBy, askedOf, begunBy, begunWith, notBegun, FirstHalf, beginning}
 use Rattle.machine.specs.declared.Asked.{Asked}
@@ -23,8 +26,8 @@ use Rattle.machine.specs.declared.Begun.{Begun}
 use Rattle.machine.specs.declared.Device.{Device}
 use Rattle.machine.proofs.Working.{take-min, take-all}
 
--- an order's data, read, what it looks for, and what it shows
-module _ (b : Books) (call : Call) (frame : List ℕ) (s c n k : ℕ) (ec : call ≡ Order s c n) (size : length frame ≡ 256) (ek : k ≡ min n 253) where
+-- an order's data, read, what it looks for, what it shows, and what the guard says to it
+module _ (b : Books) (g : Guard) (call : Call) (frame : List ℕ) (s c n k : ℕ) (ec : call ≡ Order s c n) (size : length frame ≡ 256) (ek : k ≡ min n 253) where
   abbrev content : List ℕ
   content = take (k + 3 - 3) (drop 3 frame)
 
@@ -36,13 +39,15 @@ module _ (b : Books) (call : Call) (frame : List ℕ) (s c n k : ℕ) (ec : call
   texts : shownBy c content ≡ textsBy (Order s c n) frame
   texts = ap (shownBy c) cut ∙ sym (append-nil (shownBy c (take n (drop 3 frame))))
 
-  pub asked-is : (p : Parsed) (q : Search) (x : Display) → p ≡ parsedOf c content → q ≡ searchIn b p → x ≡ displayOf (shownBy c content)
-      → record { parsed = p; search = q; shows = x } ≡ askedOf b call frame
-  asked-is p q x ep eq ex =
-      ap (λ z. record { parsed = p; search = z; shows = x }) eq
-      ∙ ap (λ z. asking b z x) (ep ∙ ap (parsedOf c) cut)
-      ∙ ap (asking b (parsedOf c (take n (drop 3 frame)))) (ex ∙ ap displayOf texts)
-      ∙ sym (ap (λ z. askedOf b z frame) ec)
+  pub asked-is : (p : Parsed) (q : Search) (x : Display) (j : Judged) → p ≡ parsedOf c content → q ≡ searchIn b p → x ≡ displayOf (shownBy c content) → j ≡ judgedBy g p content
+      → record { parsed = p; search = q; shows = x; guard = j .guard; passes = j .passes } ≡ askedOf b g call frame
+  asked-is p q x j ep eq ex ej =
+      ap (λ z. record { parsed = p; search = z; shows = x; guard = j .guard; passes = j .passes }) eq
+      ∙ ap (asking b p x) ej
+      ∙ ap (λ z. asking b z x (judgedBy g z content)) ep
+      ∙ ap (λ z. asking b (parsedOf c z) x (judgedBy g (parsedOf c z) z)) cut
+      ∙ ap (λ z. asking b (parsedOf c (take n (drop 3 frame))) z (judgedBy g (parsedOf c (take n (drop 3 frame))) (take n (drop 3 frame)))) (ex ∙ ap displayOf texts)
+      ∙ sym (ap (λ z. askedOf b g z frame) ec)
 
   pub shown-is : (display display' : List ℕ) → display' ≡ displayed display (shownBy c content) → display' ≡ displayed display (textsBy call frame)
   shown-is display display' e = e ∙ ap (displayed display) texts ∙ sym (ap (λ z. displayed display (textsBy z frame)) ec)
@@ -53,20 +58,20 @@ module _ (d : Device) (frame display : List ℕ) (room lines : ℕ) (bytes : Lis
   listened = listenedTo (d .line) frame bytes
 
   abbrev first : Bool → FirstHalf
-  first long = cond long (begunWith (d .books) listened (frameBehind (d .line) frame bytes) display) (record { begun = notBegun d; frame = frame; display = display })
+  first long = cond long (begunWith (d .books) (d .guard) listened (frameBehind (d .line) frame bytes) display) (record { begun = notBegun d; frame = frame; display = display })
 
   pub too-little : (g : Begun) → g ≡ notBegun d → longEnough room lines (length display) ≡ false
       → record { begun = g; frame = frame; display = display } ≡ beginning d frame display room lines bytes
   too-little g eg e = ap (λ (z : Begun). record { begun = z; frame = frame; display = display }) eg ∙ sym (ap first e)
 
   pub heard-first : (x : Listened) (frame' display' : List ℕ) (q : Asked) → longEnough room lines (length display) ≡ true → x ≡ listened → frame' ≡ frameBehind (d .line) frame bytes
-      → q ≡ askedOf (d .books) (x .call) frame' → display' ≡ displayed display (textsBy (x .call) frame')
+      → q ≡ askedOf (d .books) (d .guard) (x .call) frame' → display' ≡ displayed display (textsBy (x .call) frame')
       → record { begun = begunBy (d .books) x q; frame = frame'; display = display' } ≡ beginning d frame display room lines bytes
   heard-first x frame' display' q e ex ef eq ed =
       ap (λ z. record { begun = begunBy (d .books) x z; frame = frame'; display = display' }) eq
-      ∙ ap (λ z. record { begun = begunBy (d .books) x (askedOf (d .books) (x .call) frame'); frame = frame'; display = z }) ed
-      ∙ ap (λ (z : Listened). begunWith (d .books) z frame' display) ex
-      ∙ ap (λ z. begunWith (d .books) listened z display) ef
+      ∙ ap (λ z. record { begun = begunBy (d .books) x (askedOf (d .books) (d .guard) (x .call) frame'); frame = frame'; display = z }) ed
+      ∙ ap (λ (z : Listened). begunWith (d .books) (d .guard) z frame' display) ex
+      ∙ ap (λ z. begunWith (d .books) (d .guard) listened z display) ef
       ∙ sym (ap first e)
 
 -- the bytes from a place on, all of them

@@ -23,6 +23,7 @@ use Rattle.line.specs.declared.Port.{Port}
 use Rattle.line.specs.declared.Listened.{Listened}
 use Rattle.sheet.specs.declared.Line.{Line}
 use Rattle.books.specs.declared.Books.{Books}
+use Rattle.guard.specs.declared.Guard.{Guard}
 use Rattle.store.specs.Store.{Store}
 use Rattle.display.specs.Display.{displayOf, displayed}
 use Rattle.carrying.specs.Carrying.{carry, textsOf}
@@ -34,9 +35,9 @@ use Rattle.machine.proofs.Working.{front-stands, again-few}
 use Rattle.machine.proofs.Turning.{Standing-in, heard-whole, same-repeat, byte-is, byte-quiet, quiet-is, againTurn, orderTurn, callAt, heardUpTo}
 
 -- what is listened to, then what it asks for
-module _ (b : Books) (last : List ℕ) (sheet : List Line) (lent : Lent) where
+module _ (b : Books) (g : Guard) (last : List ℕ) (sheet : List Line) (lent : Lent) where
   abbrev pub at : Port → List ℕ → Machine
-  at l frame = record { device = record { line = l; books = b }; frame = frame; last = last; sheet = sheet }
+  at l frame = record { device = record { line = l; books = b; guard = g }; frame = frame; last = last; sheet = sheet }
 
   abbrev pub halves : Listened → List ℕ → PartHeard
   halves x frame = record { after = answering (x .call) (at (x .line) frame) lent; call = x .call; taken = x .taken }

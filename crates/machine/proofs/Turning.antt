@@ -96,7 +96,7 @@ module _ (m : Machine) (lent : Lent) where
   -- the device with reading moved, and this frame
   abbrev pub readingAt : Place → List ℕ → Machine
   readingAt next frame =
-      record { device = record { line = record { reader = readerOf next; previous = previous }; books = m .device .books }; frame = frame; last = m .last; sheet = m .sheet }
+      record { device = record { line = record { reader = readerOf next; previous = previous }; books = m .device .books; guard = m .device .guard }; frame = frame; last = m .last; sheet = m .sheet }
 
   -- a whole frame given again, and carried out
   abbrev pub againTurn : Place → Turn Store
@@ -129,7 +129,7 @@ module _ (m : Machine) (lent : Lent) where
   -- the device behind a byte that was heard, before what it asks for
   abbrev pub heardUpTo : ℕ → Machine
   heardUpTo byte =
-      record { device = record { line = calledOf (m .device .line) (m .frame) byte .line; books = m .device .books }; frame = frameAfter (m .device .line) (m .frame) byte; last = m .last; sheet = m .sheet }
+      record { device = record { line = calledOf (m .device .line) (m .frame) byte .line; books = m .device .books; guard = m .device .guard }; frame = frameAfter (m .device .line) (m .frame) byte; last = m .last; sheet = m .sheet }
 
   abbrev pub callAt : ℕ → Call
   callAt byte = calledOf (m .device .line) (m .frame) byte .call

@@ -7,10 +7,10 @@ use Rattle.giving.proofs.carried_out.Tie as tie
 
 returns : tie.Need-returns
 returns c =
-    let a = c .before .before .before .before .before .before .before .args in
+    let a = c .before .before .before .before .before .before .before .before .args in
     let w = a .work in
     ap (endedBy (a .begun) (record {
-      device = record { line = record { reader = a .begun .device .line .reader; previous = Frame (a .seq) (a .code) (w .count) }; books = w .books };
+      device = record { line = record { reader = a .begun .device .line .reader; previous = Frame (a .seq) (a .code) (w .count) }; books = w .books; guard = a .begun .device .guard };
       number = w .number;
       count = w .count;
       shows = a .begun .shows;

@@ -16,7 +16,7 @@ returns c =
 
 returns-2 : tie.Need-returns-2
 returns-2 c =
-    let asks = c .before .before .before .before in
+    let asks = c .before .before .before .before .before in
     let heard = asks .before .before .before .before .before in
     let cut = heard .before .before .before in
     let long = cut .before .before .before in

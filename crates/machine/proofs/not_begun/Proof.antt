@@ -1,4 +1,4 @@
-use mathlib.Core.Bool.{false}
+use mathlib.Core.Bool.{true, false}
 use mathlib.Core.Path.{ap}
 use Rattle.display.specs.declared.Display.the-variants.{Stays}
 use Rattle.kinds.specs.declared.Parsed.the-variants.{Unknown}
@@ -12,7 +12,7 @@ use Rattle.machine.proofs.not_begun.Tie as tie
 
 abbrev unheard : Device → Line → Begun
 unheard d l =
-    record { device = d; call = Quiet; taken = 0; parsed = Unknown; lines = 0; wanted = l; shows = Stays; enough = false }
+    record { device = d; call = Quiet; taken = 0; parsed = Unknown; lines = 0; wanted = l; shows = Stays; passes = true; enough = false }
 
 returns : tie.Need-returns
 returns c = ap (unheard (c .before .args .device)) (c .blank-line .ensures)
