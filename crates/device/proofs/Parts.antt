@@ -46,7 +46,7 @@ pub record BegunApart (b : Begun) (v : Val) : Type 0 where
   pub pv : Val
   pub wv : Val
   pub xv : Val
-  pub is-so : v ≡ vstruct (vcons dv (vcons cv (vcons (vint w64 (b .taken)) (vcons pv (vcons (vint w64 (b .lines)) (vcons wv (vcons xv (vcons (vbool (b .enough)) vnil))))))))
+  pub is-so : v ≡ vstruct (vcons dv (vcons cv (vcons (vint w64 (b .taken)) (vcons pv (vcons (vint w64 (b .lines)) (vcons wv (vcons xv (vcons (vbool (b .passes)) (vcons (vbool (b .enough)) vnil)))))))))
   pub lines-is : Is usize (b .lines) (vint w64 (b .lines) ∷ [])
   pub wanted-is : Is L.the-row (b .wanted) (wv ∷ [])
 

@@ -272,7 +272,7 @@ module _ {M : Type 1} (𝓤 : URA M) (H : Heap 𝓤) (A : Atoms 𝓤) (W : Given
         assigns ! (agg ! (and-then ! (load ! (from ! (stop !)) (look ! 28 refl)) (and-then ! (load ! (from ! (fld ! refl (stop !))) (look-in ! 56 (sub ! 1 refl (whole !)))) (no-more !)))) (from ! (stop !)) (init ! 26 refl (tt, (tt, (record { fits = room .0 }, tt)))) $
         move ! (4 ∷ []) $ use1 W (‵ (Shown 𝓤 H A W mem run b o ys ν δ) ⊛ ‵ (Shown 𝓤 H A W mem run b o ys ν δ)) (shr-slice-copy 𝓤 H A W (named 0) (ν ∷ []) L.the-row .twice (x 𝓤 H A W mem run b o ys δ) (s ∷ [])) $ split ! $
         move ! (5 ∷ 0 ∷ []) $ use2 W (raw (Find 𝓤 H A mem run .pre (to-find 𝓤 H A W mem run b o ys ν δ (g .lines) (g .wanted) (vint w64 (g .lines)) (p .wv)))) (goes-find 𝓤 H A W mem run b o ys ν δ (g .lines) (g .wanted) (vint w64 (g .lines)) (p .wv) (p .lines-is) (p .wanted-is)) $
-        calls-at ! fm (Find 𝓤 H A mem run) known-find (to-find 𝓤 H A W mem run b o ys ν δ (g .lines) (g .wanted) (vint w64 (g .lines)) (p .wv)) (and-then ! (load ! (from ! (stop !)) (look ! 26 refl)) (and-then ! (load ! (from ! (fld ! {τ = word} {d = 368} refl (stop !))) (look-in ! 48 {τ = word} (sub ! {τs = partsIn (type 10)} 4 {τ = word} {d = 368} refl (whole ! {τ = type 10})))) (and-then ! (load ! (from ! (fld ! {τ = type 12} {d = 376} refl (stop !))) (look-in ! 48 {τ = type 12} (sub ! {τs = partsIn (type 10)} 5 {τ = type 12} {d = 376} refl (whole ! {τ = type 10})))) (no-more !)))) (λ v₃.
+        calls-at ! fm (Find 𝓤 H A mem run) known-find (to-find 𝓤 H A W mem run b o ys ν δ (g .lines) (g .wanted) (vint w64 (g .lines)) (p .wv)) (and-then ! (load ! (from ! (stop !)) (look ! 26 refl)) (and-then ! (load ! (from ! (fld ! {τ = word} {d = 760} refl (stop !))) (look-in ! 48 {τ = word} (sub ! {τs = partsIn (type 10)} 4 {τ = word} {d = 760} refl (whole ! {τ = type 10})))) (and-then ! (load ! (from ! (fld ! {τ = type 12} {d = 768} refl (stop !))) (look-in ! 48 {τ = type 12} (sub ! {τs = partsIn (type 10)} 5 {τ = type 12} {d = 768} refl (whole ! {τ = type 10})))) (no-more !)))) (λ v₃.
         use1 W (later (some (λ (r : ℕ). ((‵ (flft (ν ∷ []) fullShare) ⊛ ‵ ftrue) ⊛ ‵ (usize .own r (v₃ ∷ []))) ⊛ raw (ensured 𝓤 H A find.ended (find.clauses 𝓤 H A mem run) (ν ∷ [], tt) ((x 𝓤 H A W mem run b o ys δ), (g .lines, (g .wanted, tt))) tt r)))) (id⊢ 𝓤 _) $ await ! tt $ pick ! (λ i.
         split ! $ move ! (1 ∷ []) $ use1 W (raw (fact 𝓤 (i ≡ newest ys (g .wanted) (g .lines) (g .lines)))) (found-is 𝓤 H A mem run (ν ∷ []) (x 𝓤 H A W mem run b o ys δ) (g .lines) (g .wanted) i) $ heard ! (i ≡ newest ys (g .wanted) (g .lines) (g .lines)) (λ e₃. split ! $ move ! (1 ∷ []) $
         facts ! usize (Is usize) (shows 𝓤 H A usize) i (v₃ ∷ []) (λ i-is.
@@ -305,7 +305,7 @@ module _ {M : Type 1} (𝓤 : URA M) (H : Heap 𝓤) (A : Atoms 𝓤) (W : Given
         assigns ! (addr ! (from ! (fld ! refl (hop ! (look-in ! 55 (sub ! 0 refl (whole !))) (stop !))))) (from ! (stop !)) (init ! 11 refl (tt, tt)) $
         assigns ! (agg ! (and-then ! (load ! (from ! (stop !)) (look ! 11 refl)) (and-then ! (load ! (from ! (fld ! refl (stop !))) (look-in ! 55 (sub ! 1 refl (whole !)))) (no-more !)))) (from ! (stop !)) (init ! 9 refl (tt, (tt, (record { fits = room .0 }, tt)))) $
         move ! (4 ∷ 5 ∷ []) $ use2 W (raw (Tell 𝓤 H A mem run .pre (to-tell (e .writes) (c .wv)))) (goes-tell (e .writes) (c .wv) (c .writes-is)) $
-        calls-at ! fm (Tell 𝓤 H A mem run) known-tell (to-tell (e .writes) (c .wv)) (and-then ! (load ! (from ! (stop !)) (look ! 8 refl)) (and-then ! (load ! (from ! (fld ! {τ = R′.mir} {d = 336} refl (stop !))) (look-in ! 40 {τ = R′.mir} (sub ! {τs = partsIn (type 13)} 1 {τ = R′.mir} {d = 336} refl (whole ! {τ = type 13})))) (no-more !))) (λ v₆.
+        calls-at ! fm (Tell 𝓤 H A mem run) known-tell (to-tell (e .writes) (c .wv)) (and-then ! (load ! (from ! (stop !)) (look ! 8 refl)) (and-then ! (load ! (from ! (fld ! {τ = R′.mir} {d = 728} refl (stop !))) (look-in ! 40 {τ = R′.mir} (sub ! {τs = partsIn (type 13)} 1 {τ = R′.mir} {d = 728} refl (whole ! {τ = type 13})))) (no-more !))) (λ v₆.
         use1 W (later (some (λ (r′ : Unit {0}). ((‵ (flft κ q) ⊛ ‵ ftrue) ⊛ ‵ (unit .own r′ (v₆ ∷ []))) ⊛ raw (ensured 𝓤 H A tell.ended (tell.clauses 𝓤 H A mem run) (κ, tt) (x 𝓤 H A W mem run b o ys γ, (e .writes, tt)) tt r′)))) (id⊢ 𝓤 _) $ await ! tt $ pick ! (λ u₁.
         split ! $ move ! (1 ∷ []) $ use1 W (some (λ (zs : List Line × (Unit {0} × Unit {0})). ‵ (lasts tell.ended (κ, tt) (x 𝓤 H A W mem run b o ys γ, (e .writes, tt)) zs) ⊛ raw (fact 𝓤 (zs .0 ≡ written ys (e .writes))))) (id⊢ 𝓤 _) $ pick ! (λ zs.
         split ! $ move ! (1 ∷ []) $ heard ! (zs .0 ≡ written ys (e .writes)) (λ e₇. fsplit ! $ fsplit ! $ move ! (1 ∷ []) $ feqL ! (λ len₂.
