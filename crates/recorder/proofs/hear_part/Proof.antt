@@ -221,7 +221,7 @@ module _ {M : Type 1} (𝓤 : URA M) (H : Heap 𝓤) (A : Atoms 𝓤) (W : Given
         fsplit ! $ move ! (1 ∷ []) $ fsplit ! $ move ! (1 ∷ []) $ fsplit ! $ move ! (1 ∷ []) $ fsplit ! $ move ! (1 ∷ []) $ fsplit ! $ move ! (1 ∷ []) $ fsplit ! $ move ! (1 ∷ []) $ fsplit ! $ move ! (1 ∷ []) $ fsplit ! $ keep ! (0 ∷ 9 ∷ 2 ∷ 11 ∷ 3 ∷ 12 ∷ 4 ∷ 13 ∷ 5 ∷ 14 ∷ 6 ∷ 15 ∷ 7 ∷ 16 ∷ []) $ enter ! C₀ Λ code.function (kv ∷ (vptr (f .ptr .0) (f .ptr .1)) ∷ (vptr (l .ptr .0) (l .ptr .1)) ∷ (sliceVal (y .ptr) (length (y .now))) ∷ (sliceVal (w .ptr) (length (w .now))) ∷ (sliceVal (z .ptr) (length (z .now))) ∷ (sliceVal (u .ptr) (length (u .now))) ∷ (sliceVal (r .ptr) (length (r .now))) ∷ []) _ $
         alloc1 ! (λ l₀. alloc1 ! (λ l₁. alloc1 ! (λ l₂. alloc1 ! (λ l₃. alloc1 ! (λ l₄. alloc1 ! (λ l₅. alloc1 ! (λ l₆. alloc1 ! (λ l₇. alloc1 ! (λ l₈. alloc1 ! (λ l₉. alloc1 ! (λ l₁₀. alloc1 ! (λ l₁₁. alloc1 ! (λ l₁₂. alloc1 ! (λ l₁₃. alloc1 ! (λ l₁₄. alloc1 ! (λ l₁₅. alloc1 ! (λ l₁₆. alloc1 ! (λ l₁₇. alloc1 ! (λ l₁₈. alloc1 ! (λ l₁₉. alloc1 ! (λ l₂₀. alloc1 ! (λ l₂₁. alloc1 ! (λ l₂₂. alloc1 ! (λ l₂₃. alloc1 ! (λ l₂₄. alloc1 ! (λ l₂₅. alloc1 ! (λ l₂₆. alloc0 ! $ params1 ! $ pass1 ! (init ! 50 refl (LL.lawful K.the-type K′.the-laws 𝓤 H A W .typed k _ k-is .0)) $ pass1 ! (init ! 48 refl (tt, tt)) $ pass1 ! (init ! 46 refl (tt, tt)) $
         pass1 ! (init ! 44 refl (tt, (tt, (record { fits = room8 .0 }, tt)))) $ pass1 ! (init ! 42 refl (tt, (tt, (record { fits = roomd .0 }, tt)))) $ pass1 ! (init ! 40 refl (tt, (tt, (record { fits = roomb .0 }, tt)))) $ pass1 ! (init ! 38 refl (tt, (tt, (record { fits = roomu .0 }, tt)))) $ pass1 ! (init ! 36 refl (tt, (tt, (record { fits = roomr .0 }, tt)))) $ pass0 ! $ move ! (54 ∷ 55 ∷ 56 ∷ 57 ∷ 58 ∷ 59 ∷ 60 ∷ 61 ∷ 62 ∷ 63 ∷ 64 ∷ 65 ∷ 66 ∷ 67 ∷ []) $ rewrite ! 64 (λ (v : Val). ‵ (fat fullShare kept-ty l₁ 0 v)) (p .is-so) refl $
-        assigns ! (of-opd ! (load ! (from ! (fld ! {τ = aty} {d = 280} refl (stop !))) (look-in ! 64 {τ = aty} (sub ! {τs = partsIn kept-ty} 1 {τ = aty} {d = 280} refl (whole ! {τ = kept-ty}))))) (from ! (stop !)) (init ! 48 refl (array-lawful 𝓤 H A W T.the-row (LL.lawful T.the-type T′.the-laws 𝓤 H A W) 512 .typed xs _ (p .sheet-is) .0)) $ assigns ! (of-opd ! (load ! (from ! (fld ! refl (stop !))) (look-in ! 54 (sub ! 1 refl (whole !))))) (from ! (stop !)) (init ! 42 refl (tt, record { fits = roomb .0 })) $
+        assigns ! (of-opd ! (load ! (from ! (fld ! {τ = aty} {d = 672} refl (stop !))) (look-in ! 64 {τ = aty} (sub ! {τs = partsIn kept-ty} 1 {τ = aty} {d = 672} refl (whole ! {τ = kept-ty}))))) (from ! (stop !)) (init ! 48 refl (array-lawful 𝓤 H A W T.the-row (LL.lawful T.the-type T′.the-laws 𝓤 H A W) 512 .typed xs _ (p .sheet-is) .0)) $ assigns ! (of-opd ! (load ! (from ! (fld ! refl (stop !))) (look-in ! 54 (sub ! 1 refl (whole !))))) (from ! (stop !)) (init ! 42 refl (tt, record { fits = roomb .0 })) $
         -- `start`
         use0 W (raw (Start 𝓤 H A at-mem run .pre (to-start (p .dv)))) (goes-start (p .dv) (p .device-is)) $ calls-at ! (fmOf 𝓤 H (W .laws) 𝓣) (Start 𝓤 H A at-mem run) known-start (to-start (p .dv)) (and-then ! (load ! (from ! (fld ! {τ = D′.mir} {d = 0} refl (stop !))) (look-in ! 65 {τ = D′.mir} (sub ! {τs = partsIn kept-ty} 0 {τ = D′.mir} {d = 0} refl (whole ! {τ = kept-ty})))) (and-then ! (load ! (from ! (stop !)) (look ! 43 refl)) (no-more !))) (λ v₀.
         use1 W (later (some (λ (g : Run). (‵ ftrue ⊛ ‵ (R.the-row .own g (v₀ ∷ []))) ⊛ raw (ensured 𝓤 H A start.ended (start.clauses 𝓤 H A at-mem run) tt (k .device, (length (z .now), tt)) tt g)))) (id⊢ 𝓤 _) $ await ! tt $ pick ! (λ g. split ! $ move ! (1 ∷ []) $ use1 W (some (λ (ws : Unit {0} × (Unit {0} × Unit {0})). ‵ (lasts start.ended tt (k .device, (length (z .now), tt)) ws) ⊛ raw (fact 𝓤 (g ≡ startOf (k .device) (length (z .now)))))) (id⊢ 𝓤 _) $ pick ! (λ ws₀.
@@ -250,7 +250,7 @@ module _ {M : Type 1} (𝓤 : URA M) (H : Heap 𝓤) (A : Atoms 𝓤) (W : Given
         -- the lifetime is ended, and the local is back
         move ! (3 ∷ []) $ lft-end ! tt $ move ! (0 ∷ 15 ∷ 10 ∷ []) $ use3 W (later (‵ (Arr (mem T.the-row) (length xs) .lies zs l₉ 0))) (slice-back 𝓤 H A W T.the-row (ν ∷ []) γ zs (length xs) l₉ 0) $ await ! tt $ use1 W (given (Is Rows zs (avals zs)) (‵ (fat fullShare aty l₉ 0 (aval zs)))) (stands 𝓤 H A W l₉ zs (length xs) (p .len)) $ learn ! (λ z-is. assigns ! (of-opd ! (load ! (from ! (stop !)) (look ! 0 refl))) (from ! (stop !)) (init ! 16 refl (array-lawful 𝓤 H A W T.the-row (LL.lawful T.the-type T′.the-laws 𝓤 H A W) 512 .typed zs _ z-is .0)) $
         assigns ! (agg ! (and-then ! (load ! (from ! (fld ! {τ = D′.mir} {d = 0} refl (stop !))) (look-in ! 44 {τ = D′.mir} (sub ! {τs = partsIn run-ty} 0 {τ = D′.mir} {d = 0} refl (whole ! {τ = run-ty})))) (and-then ! (load ! (from ! (stop !)) (look ! 16 refl)) (no-more !)))) (from ! (stop !)) (init ! 14 refl (LL.lawful K.the-type K′.the-laws 𝓤 H A W .typed (record { device = h .device; sheet = zs }) _ (kept-is (h .device) (t .dv) zs (t .device-is) z-is) .0)) $
-        assigns ! (agg ! (and-then ! (load ! (from ! (stop !)) (look ! 14 refl)) (and-then ! (load ! (from ! (fld ! {τ = word} {d = 288} refl (stop !))) (look-in ! 44 {τ = word} (sub ! {τs = partsIn run-ty} 2 {τ = word} {d = 288} refl (whole ! {τ = run-ty})))) (and-then ! (load ! (from ! (fld ! {τ = word} {d = 296} refl (stop !))) (look-in ! 44 {τ = word} (sub ! {τs = partsIn run-ty} 3 {τ = word} {d = 296} refl (whole ! {τ = run-ty})))) (no-more !))))) (from ! (stop !)) (init ! 65 refl (LL.lawful P.the-type P′.the-laws 𝓤 H A W .typed (partWith h zs) _ (part-is h (t .dv) zs (t .device-is) (t .given-is) (t .listed-is) z-is) .0)) $
+        assigns ! (agg ! (and-then ! (load ! (from ! (stop !)) (look ! 14 refl)) (and-then ! (load ! (from ! (fld ! {τ = word} {d = 680} refl (stop !))) (look-in ! 44 {τ = word} (sub ! {τs = partsIn run-ty} 2 {τ = word} {d = 680} refl (whole ! {τ = run-ty})))) (and-then ! (load ! (from ! (fld ! {τ = word} {d = 688} refl (stop !))) (look-in ! 44 {τ = word} (sub ! {τs = partsIn run-ty} 3 {τ = word} {d = 688} refl (whole ! {τ = run-ty})))) (no-more !))))) (from ! (stop !)) (init ! 65 refl (LL.lawful P.the-type P′.the-laws 𝓤 H A W .typed (partWith h zs) _ (part-is h (t .dv) zs (t .device-is) (t .given-is) (t .listed-is) z-is) .0)) $
         returns ! (look ! 65 refl) $ forget ! 65 refl $ forget ! 63 refl $ forget ! 61 refl $ forget ! 59 refl $ forget ! 57 refl $ forget ! 55 refl $ forget ! 53 refl $ forget ! 51 refl $ forget ! 49 refl $ forget ! 0 refl $ forget ! 46 refl $ forget ! 44 refl $ forget ! 42 refl $ forget ! 40 refl $ forget ! 38 refl $ forget ! 36 refl $ forget ! 34 refl $ forget ! 32 refl $ forget ! 30 refl $ forget ! 28 refl $ forget ! 26 refl $ forget ! 24 refl $ forget ! 22 refl $ forget ! 20 refl $ forget ! 18 refl $ forget ! 16 refl $ forget ! 14 refl $
         move ! (65 ∷ 66 ∷ []) $ free1 ! $ move ! (63 ∷ 64 ∷ []) $ free1 ! $ move ! (61 ∷ 62 ∷ []) $ free1 ! $ move ! (59 ∷ 60 ∷ []) $ free1 ! $ move ! (57 ∷ 58 ∷ []) $ free1 ! $ move ! (55 ∷ 56 ∷ []) $ free1 ! $ move ! (53 ∷ 54 ∷ []) $ free1 ! $ move ! (51 ∷ 52 ∷ []) $ free1 ! $ move ! (49 ∷ 50 ∷ []) $ free1 ! $ move ! (0 ∷ 48 ∷ []) $ free1 ! $ move ! (45 ∷ 46 ∷ []) $ free1 ! $ move ! (43 ∷ 44 ∷ []) $ free1 ! $ move ! (41 ∷ 42 ∷ []) $ free1 ! $ move ! (39 ∷ 40 ∷ []) $ free1 ! $ move ! (37 ∷ 38 ∷ []) $ free1 ! $ move ! (35 ∷ 36 ∷ []) $ free1 ! $ move ! (33 ∷ 34 ∷ []) $ free1 ! $ move ! (31 ∷ 32 ∷ []) $ free1 ! $ move ! (29 ∷ 30 ∷ []) $ free1 ! $ move ! (27 ∷ 28 ∷ []) $ free1 ! $ move ! (25 ∷ 26 ∷ []) $ free1 ! $ move ! (23 ∷ 24 ∷ []) $ free1 ! $ move ! (21 ∷ 22 ∷ []) $ free1 ! $ move ! (19 ∷ 20 ∷ []) $ free1 ! $ move ! (17 ∷ 18 ∷ []) $ free1 ! $ move ! (15 ∷ 16 ∷ []) $ free1 ! $ move ! (13 ∷ 14 ∷ []) $ free1 ! $ free0 ! $
         keep ! (6 ∷ 5 ∷ 4 ∷ 3 ∷ 2 ∷ 1 ∷ 0 ∷ 12 ∷ 11 ∷ 10 ∷ 9 ∷ 8 ∷ 7 ∷ []) $ by ! (exits h (t .dv) fs ls os ds zs us rs (part-is h (t .dv) zs (t .device-is) (t .given-is) (t .listed-is) z-is) (handed k (f .now) (l .now) (y .now) (w .now) (z .now) (u .now) (r .now) g _ e₀ e) len₁ len₂ len₄ len₅))))))))))))))))))))))))))))))))))))))))))))))

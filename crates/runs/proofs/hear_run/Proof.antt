@@ -309,7 +309,7 @@ module _ {M : Type 1} (𝓤 : URA M) (H : Heap 𝓤) (A : Atoms 𝓤) (W : Given
       turns c =
           let d : Running = c .0 in
           let p : Apart (d .run) (c .1) = apart (d .run) (c .1) (c .2 .is) in
-          rewrite ! 52 (λ (v : Val). ‵ (fat fullShare run-ty l₁₀ 0 v)) (p .is-so) refl $ assigns ! (of-opd ! (load ! (from ! (fld ! {τ = tyBool} {d = 304} refl (stop !))) (look-in ! 52 {τ = tyBool} (sub ! {τs = partsIn run-ty} 4 {τ = tyBool} {d = 304} refl (whole ! {τ = run-ty}))))) (from ! (stop !)) (init ! 48 refl (tt, tt)) $ first ! $ branches ! (load ! (from ! (stop !)) (look ! 48 refl))
+          rewrite ! 52 (λ (v : Val). ‵ (fat fullShare run-ty l₁₀ 0 v)) (p .is-so) refl $ assigns ! (of-opd ! (load ! (from ! (fld ! {τ = tyBool} {d = 696} refl (stop !))) (look-in ! 52 {τ = tyBool} (sub ! {τs = partsIn run-ty} 4 {τ = tyBool} {d = 696} refl (whole ! {τ = run-ty}))))) (from ! (stop !)) (init ! 48 refl (tt, tt)) $ first ! $ branches ! (load ! (from ! (stop !)) (look ! 48 refl))
           (λ so.
           let more : d .run .more ≡ true = holds (d .run .more) so in
           skips ! $ exec ! C₀ Λ En (after (after body.turn-1)) (anyQ (Turned c)) $ assigns ! (addr ! (from ! (hop ! (look ! 68 refl) (stop !)))) (from ! (stop !)) (init ! 46 refl (tt, tt)) $ assigns ! (addr ! (from ! (hop ! (look ! 66 refl) (stop !)))) (from ! (stop !)) (init ! 44 refl (tt, tt)) $ assigns ! (addr ! (from ! (fld ! refl (hop ! (look-in ! 64 (sub ! 0 refl (whole !))) (stop !))))) (from ! (stop !)) (init ! 42 refl (tt, tt)) $
@@ -323,7 +323,7 @@ module _ {M : Type 1} (𝓤 : URA M) (H : Heap 𝓤) (A : Atoms 𝓤) (W : Given
           use2 W (later (some (λ (δ : GName). ‵ (Last (ν₄ ∷ []) δ (d .last)) ⊛ ‵ (RefAgain (Array u8 217) κl (ν₄ ∷ []) ql (l .name) (l .ptr .0) (l .ptr .1) δ (d .last))))) (lends-ref-again 𝓤 H A W (Array u8 217) (named 1) κl (ν₄ ∷ []) ql (l .name) (l .ptr .0) (l .ptr .1) (named 1) (d .last)) $ await ! tt $ pick ! (λ δ₄. split ! $ lft-new ! tt (λ ν₅. move ! (13 ∷ 14 ∷ []) $
           use2 W (later (some (λ (δ : GName). ‵ (Frame (ν₅ ∷ []) δ (d .frame)) ⊛ ‵ (RefAgain (Array u8 256) κf (ν₅ ∷ []) qf (f .name) (f .ptr .0) (f .ptr .1) δ (d .frame))))) (lends-ref-again 𝓤 H A W (Array u8 256) (named 0) κf (ν₅ ∷ []) qf (f .name) (f .ptr .0) (f .ptr .1) (named 0) (d .frame)) $ await ! tt $ pick ! (λ δ₅. split ! $ move ! (15 ∷ []) $ use1 W (‵ Bytes-own ⊛ ‵ Bytes-own) (shr-slice-copy 𝓤 H A W (named 5) κb u8 .twice z (sliceVal (z .ptr) (length bs) ∷ [])) $ split ! $ move ! (4 ∷ 7 ∷ 10 ∷ 13 ∷ 16 ∷ 17 ∷ []) $ join ! $ join ! $ join ! $ join ! $ join ! $ move ! (3 ∷ 5 ∷ 7 ∷ 9 ∷ 11 ∷ 1 ∷ []) $
           join ! $ join ! $ join ! $ join ! $ join ! $ use2 W (raw (Hear 𝓤 H A mem run .pre (to-hear ν₅ ν₄ ν₃ ν₂ ν₁ δ₅ δ₄ δ₃ δ₂ δ₁ d (p .dv)))) (goes-hear ν₅ ν₄ ν₃ ν₂ ν₁ δ₅ δ₄ δ₃ δ₂ δ₁ d (p .dv) (p .device-is) (p .place-is)) $
-          calls-at ! (fmOf 𝓤 H (W .laws) 𝓣) (Hear 𝓤 H A mem run) known-hear (to-hear ν₅ ν₄ ν₃ ν₂ ν₁ δ₅ δ₄ δ₃ δ₂ δ₁ d (p .dv)) (and-then ! (load ! (from ! (fld ! {τ = D′.mir} {d = 0} refl (stop !))) (look-in ! 47 {τ = D′.mir} (sub ! {τs = partsIn run-ty} 0 {τ = D′.mir} {d = 0} refl (whole ! {τ = run-ty})))) (and-then ! (load ! (from ! (stop !)) (look ! 41 refl)) (and-then ! (load ! (from ! (stop !)) (look ! 39 refl)) (and-then ! (load ! (from ! (stop !)) (look ! 35 refl)) (and-then ! (load ! (from ! (stop !)) (look ! 31 refl)) (and-then ! (load ! (from ! (stop !)) (look ! 27 refl)) (and-then ! (load ! (from ! (stop !)) (look ! 53 refl)) (and-then ! (load ! (from ! (fld ! {τ = word} {d = 280} refl (stop !))) (look-in ! 47 {τ = word} (sub ! {τs = partsIn run-ty} 1 {τ = word} {d = 280} refl (whole ! {τ = run-ty})))) (no-more !))))))))) (λ hv.
+          calls-at ! (fmOf 𝓤 H (W .laws) 𝓣) (Hear 𝓤 H A mem run) known-hear (to-hear ν₅ ν₄ ν₃ ν₂ ν₁ δ₅ δ₄ δ₃ δ₂ δ₁ d (p .dv)) (and-then ! (load ! (from ! (fld ! {τ = D′.mir} {d = 0} refl (stop !))) (look-in ! 47 {τ = D′.mir} (sub ! {τs = partsIn run-ty} 0 {τ = D′.mir} {d = 0} refl (whole ! {τ = run-ty})))) (and-then ! (load ! (from ! (stop !)) (look ! 41 refl)) (and-then ! (load ! (from ! (stop !)) (look ! 39 refl)) (and-then ! (load ! (from ! (stop !)) (look ! 35 refl)) (and-then ! (load ! (from ! (stop !)) (look ! 31 refl)) (and-then ! (load ! (from ! (stop !)) (look ! 27 refl)) (and-then ! (load ! (from ! (stop !)) (look ! 53 refl)) (and-then ! (load ! (from ! (fld ! {τ = word} {d = 672} refl (stop !))) (look-in ! 47 {τ = word} (sub ! {τs = partsIn run-ty} 1 {τ = word} {d = 672} refl (whole ! {τ = run-ty})))) (no-more !))))))))) (λ hv.
           use1 W (later (some (λ (h : Hearing). ((‵ (flft (ν₅ ∷ []) fullShare) ⊛ (‵ (flft (ν₄ ∷ []) fullShare) ⊛ (‵ (flft (ν₃ ∷ []) fullShare) ⊛ (‵ (flft (ν₂ ∷ []) fullShare) ⊛ (‵ (flft (ν₁ ∷ []) fullShare) ⊛ (‵ (flft κb qb) ⊛ ‵ ftrue)))))) ⊛ ‵ (E.the-row .own h (hv ∷ []))) ⊛ raw (ensured 𝓤 H A hear.ended (hear.clauses 𝓤 H A mem run) (ν₅ ∷ [], (ν₄ ∷ [], (ν₃ ∷ [], (ν₂ ∷ [], (ν₁ ∷ [], (κb, tt)))))) (d .run .device, (at-list f δ₅ (d .frame), (at-list l δ₄ (d .last), (at-list y δ₃ (d .buffer), (at-list w δ₂ (d .display), (x δ₁ (d .sheet), (z, (d .run .place, tt)))))))) tt h)))) (id⊢ 𝓤 _) $ await ! tt $ pick ! (λ h. split ! $ move ! (1 ∷ []) $
           use1 W (some (λ (ws : Unit {0} × (List ℕ × (List ℕ × (List ℕ × (List ℕ × (List Line × (Unit {0} × (Unit {0} × Unit {0})))))))). ‵ (lasts hear.ended (ν₅ ∷ [], (ν₄ ∷ [], (ν₃ ∷ [], (ν₂ ∷ [], (ν₁ ∷ [], (κb, tt)))))) (d .run .device, (at-list f δ₅ (d .frame), (at-list l δ₄ (d .last), (at-list y δ₃ (d .buffer), (at-list w δ₂ (d .display), (x δ₁ (d .sheet), (z, (d .run .place, tt)))))))) ws) ⊛ raw (fact 𝓤 (Heard d h (ws .1 .0) (ws .1 .1 .0) (ws .1 .1 .1 .0) (ws .1 .1 .1 .1 .0) (ws .1 .1 .1 .1 .1 .0))))) (id⊢ 𝓤 _) $ pick ! (λ ws.
           let fs : List ℕ = ws .1 .0 in
