@@ -1,8 +1,13 @@
 -- A reason is told exactly when a command is refused, and with that number: of any books, whatever the sheet says, for any data.
 use Prim.Native.Nat.{ℕ, _+_, min}
 use mathlib.Core.Path.{_≡_, refl, sym, _∙_}
+use mathlib.Core.List.{List}
 use mathlib.Core.Bool.{Bool, true, false, cond, not, _&&_, _||_}
 use lib.Dec.{leb, ltb}
+use Rattle.guard.specs.Guard.{trialOf, verdictOf, passes, judgedBy}
+use Rattle.guard.specs.declared.Guard.{Guard}
+use Rattle.guard.specs.declared.Verdict.{Verdict}
+use Rattle.guard.specs.declared.Verdict.the-variants as verdict
 use Rattle.kinds.specs.declared.Parsed.{Parsed}
 use Rattle.kinds.specs.declared.Parsed.the-variants as parsed
 use Rattle.sheet.specs.declared.Match.{Match}
@@ -14,7 +19,7 @@ use Rattle.books.specs.Rates.{rateIn, isEnabled}
 use Rattle.books.specs.Registers.{registerOf}
 use Rattle.books.specs.Sound.{inTwelve, mostReceipts}
 use Rattle.books.specs.declared.Books.{Books}
-use Rattle.rules.specs.Reasons.{isPrice, tenderHolds, isRight, full, dayOver, memoryOver, manyOpened, noneOpen, owed, tendered}
+use Rattle.rules.specs.Reasons.{isPrice, tenderHolds, full, dayOver, memoryOver, manyOpened, noneOpen, owed, tendered}
 use Rattle.rules.specs.Views.{viewOf}
 use Rattle.rules.specs.declared.views.View.{View}
 use Rattle.rules.specs.declared.views.View.the-variants.{Opens, Sells, Pays, Closes, Cancels, OpensText, ClosesText, Clears, Puts, Takes, Asks}
@@ -23,33 +28,32 @@ use Rattle.rules.specs.Rules.{Rule, ruleOf}
 use Rattle.deeds.specs.Deeds.{refusedWith, doneWith, judged, deedOf}
 use Rattle.carrying.specs.Carrying.{deedFor}
 use Rattle.refusals.specs.Numbers.{reasonNumber}
-use Rattle.refusals.specs.Refusals.{againstView, reasonOf}
-use Rattle.reasons.specs.declared.Reason.the-variants.{Done, OutOfRange, WrongPassword, ReceiptOpen, ManyReceipts, MemoryFull, NoFiscal, PaymentDone, ManyLines, GroupDisabled, OffAboveLine, NoLineBack, OffAboveGroup, PaidInFull, AboveRest, NotPaid, NoText, LittleCash, ManyFiscal, LineOver, FinishedOver, TotalOver, GroupOver, RegisterOver, DayOver, MemoryOver, CashOver, InOver, OutOver}
+use Rattle.refusals.specs.Refusals.{againstView, againstVerdict, reasonOf}
+use Rattle.reasons.specs.declared.Reason.the-variants.{Done, OutOfRange, ReceiptOpen, ManyReceipts, MemoryFull, NoFiscal, PaymentDone, ManyLines, GroupDisabled, OffAboveLine, NoLineBack, OffAboveGroup, PaidInFull, AboveRest, NotPaid, NoText, LittleCash, ManyFiscal, LineOver, FinishedOver, TotalOver, GroupOver, RegisterOver, DayOver, MemoryOver, CashOver, InOver, OutOver}
 
 -- the number that reasons for 1, 3 and 4 come to
-abbrev judgedBy : Bool → Bool → Bool → ℕ
-judgedBy one three four = cond one 1 (cond three 3 (cond four 4 0))
+abbrev numberBy : Bool → Bool → Bool → ℕ
+numberBy one three four = cond one 1 (cond three 3 (cond four 4 0))
 
-numbered : (b : Books) (r : Rule) → judged b r .number ≡ judgedBy (r .one) (r .three) (r .four)
+numbered : (b : Books) (r : Rule) → judged b r .number ≡ numberBy (r .one) (r .three) (r .four)
 numbered b r = by (r .one) (r .three) (r .four)
   where
     by : (one three four : Bool)
         → cond one (refusedWith 1 b) (cond three (refusedWith 3 b) (cond four (refusedWith 4 b) (doneWith (r .after) (r .shows) (r .note)))) .number
-        ≡ judgedBy one three four
+        ≡ numberBy one three four
     by true three four = refl
     by false true four = refl
     by false false true = refl
     by false false false = refl
 
-opens : (a b c d e : Bool) → reasonNumber (cond a WrongPassword (cond b ReceiptOpen (cond c ManyReceipts (cond d MemoryFull (cond e ManyFiscal Done))))) ≡ judgedBy false (a || b || c || d) e
-opens true b c d e = refl
-opens false true c d e = refl
-opens false false true d e = refl
-opens false false false true e = refl
-opens false false false false true = refl
-opens false false false false false = refl
+opens : (a b c d : Bool) → reasonNumber (cond a ReceiptOpen (cond b ManyReceipts (cond c MemoryFull (cond d ManyFiscal Done)))) ≡ numberBy false (a || b || c) d
+opens true b c d = refl
+opens false true c d = refl
+opens false false true d = refl
+opens false false false true = refl
+opens false false false false = refl
 
-pays : (a b c d e : Bool) → reasonNumber (cond a OutOfRange (cond b NoFiscal (cond c PaidInFull (cond d AboveRest (cond e RegisterOver Done))))) ≡ judgedBy a (b || c || d) e
+pays : (a b c d e : Bool) → reasonNumber (cond a OutOfRange (cond b NoFiscal (cond c PaidInFull (cond d AboveRest (cond e RegisterOver Done))))) ≡ numberBy a (b || c || d) e
 pays true b c d e = refl
 pays false true c d e = refl
 pays false false true d e = refl
@@ -57,52 +61,52 @@ pays false false false true e = refl
 pays false false false false true = refl
 pays false false false false false = refl
 
-closes : (a b c : Bool) → reasonNumber (cond a NoFiscal (cond b NotPaid (cond c DayOver Done))) ≡ judgedBy false (a || b) c
+closes : (a b c : Bool) → reasonNumber (cond a NoFiscal (cond b NotPaid (cond c DayOver Done))) ≡ numberBy false (a || b) c
 closes true b c = refl
 closes false true c = refl
 closes false false true = refl
 closes false false false = refl
 
-cancels : (a b : Bool) → reasonNumber (cond a NoFiscal (cond b PaymentDone Done)) ≡ judgedBy false (a || b) false
+cancels : (a b : Bool) → reasonNumber (cond a NoFiscal (cond b PaymentDone Done)) ≡ numberBy false (a || b) false
 cancels true b = refl
 cancels false true = refl
 cancels false false = refl
 
-opens-text : (a b : Bool) → reasonNumber (cond a ReceiptOpen (cond b ManyReceipts Done)) ≡ judgedBy false (a || b) false
+opens-text : (a b : Bool) → reasonNumber (cond a ReceiptOpen (cond b ManyReceipts Done)) ≡ numberBy false (a || b) false
 opens-text true b = refl
 opens-text false true = refl
 opens-text false false = refl
 
-closes-text : (a : Bool) → reasonNumber (cond a NoText Done) ≡ judgedBy false a false
+closes-text : (a : Bool) → reasonNumber (cond a NoText Done) ≡ numberBy false a false
 closes-text true = refl
 closes-text false = refl
 
-clears : (a b c d : Bool) → reasonNumber (cond a ReceiptOpen (cond b MemoryFull (cond c DayOver (cond d MemoryOver Done)))) ≡ judgedBy false (a || b) (c || d)
+clears : (a b c d : Bool) → reasonNumber (cond a ReceiptOpen (cond b MemoryFull (cond c DayOver (cond d MemoryOver Done)))) ≡ numberBy false (a || b) (c || d)
 clears true b c d = refl
 clears false true c d = refl
 clears false false true d = refl
 clears false false false true = refl
 clears false false false false = refl
 
-puts : (a b c d : Bool) → reasonNumber (cond a OutOfRange (cond b ReceiptOpen (cond c CashOver (cond d InOver Done)))) ≡ judgedBy a b (c || d)
+puts : (a b c d : Bool) → reasonNumber (cond a OutOfRange (cond b ReceiptOpen (cond c CashOver (cond d InOver Done)))) ≡ numberBy a b (c || d)
 puts true b c d = refl
 puts false true c d = refl
 puts false false true d = refl
 puts false false false true = refl
 puts false false false false = refl
 
-takes : (a b c d : Bool) → reasonNumber (cond a OutOfRange (cond b ReceiptOpen (cond c LittleCash (cond d OutOver Done)))) ≡ judgedBy a (b || c) d
+takes : (a b c d : Bool) → reasonNumber (cond a OutOfRange (cond b ReceiptOpen (cond c LittleCash (cond d OutOver Done)))) ≡ numberBy a (b || c) d
 takes true b c d = refl
 takes false true c d = refl
 takes false false true d = refl
 takes false false false true = refl
 takes false false false false = refl
 
-asks-fiscal : (a : Bool) → reasonNumber (cond a NoFiscal Done) ≡ judgedBy false a false
+asks-fiscal : (a : Bool) → reasonNumber (cond a NoFiscal Done) ≡ numberBy false a false
 asks-fiscal true = refl
 asks-fiscal false = refl
 
-asks-none : (a : Bool) → reasonNumber (cond a ReceiptOpen Done) ≡ judgedBy false a false
+asks-none : (a : Bool) → reasonNumber (cond a ReceiptOpen Done) ≡ numberBy false a false
 asks-none true = refl
 asks-none false = refl
 
@@ -110,7 +114,7 @@ asks-none false = refl
 sells : (f o t n g u m x y l k w d : Bool)
     → reasonNumber (cond f OutOfRange (cond o NoFiscal (cond t PaymentDone (cond n ManyLines (cond g GroupDisabled (cond u OffAboveLine
     (cond (m && x) NoLineBack (cond (m && y) OffAboveGroup (cond l LineOver (cond k FinishedOver (cond w TotalOver (cond d GroupOver Done))))))))))))
-    ≡ judgedBy f (o || (t || n || g || u || m && (x || y))) (l || k || w || d)
+    ≡ numberBy f (o || (t || n || g || u || m && (x || y))) (l || k || w || d)
 sells true o t n g u m x y l k w d = refl
 sells false true t n g u m x y l k w d = refl
 sells false false true n g u m x y l k w d = refl
@@ -134,8 +138,8 @@ sells false false false false false false false x y false false false false = re
 pub view-number : (b : Books) (m : Match) (v : View) → reasonNumber (againstView b m v) ≡ deedOf b m v .number
 view-number b m v = told v ∙ sym (numbered b (ruleOf b m v))
   where
-    told : (v : View) → reasonNumber (againstView b m v) ≡ judgedBy (ruleOf b m v .one) (ruleOf b m v .three) (ruleOf b m v .four)
-    told (Opens p) = opens (not (isRight p)) (anyOpen (b .opened)) (manyOpened b) (full b) (leb mostReceipts (b .counters .fiscal))
+    told : (v : View) → reasonNumber (againstView b m v) ≡ numberBy (ruleOf b m v .one) (ruleOf b m v .three) (ruleOf b m v .four)
+    told Opens = opens (anyOpen (b .opened)) (manyOpened b) (full b) (leb mostReceipts (b .counters .fiscal))
     told (Sells s) =
         sells (not (fits s)) (noneOpen b) (b .receipt .tried) (leb 512 (b .receipt .lines)) (not (isEnabled (rateIn b (s .group)))) (tooMuchOff (productOf s) (s .adjust))
         (s .minus) (not (m .found)) (ltb (at (b .receipt .groups) (s .group)) (m .amount))
@@ -155,8 +159,15 @@ view-number b m v = told v ∙ sym (numbered b (ruleOf b m v))
     told (Asks TextIsOpen shown) = closes-text (not (textOpen (b .opened)))
     told (Asks NoneIsOpen shown) = asks-none (anyOpen (b .opened))
 
+-- PROTOCOL 5.20: what the guard does not let pass is 3, with its reason
+verdict-number : (b : Books) (m : Match) (w : Verdict) (v : View) → reasonNumber (againstVerdict w b m v) ≡ cond (passes w) (deedOf b m v) (refusedWith 3 b) .number
+verdict-number b m verdict.Free v = view-number b m v
+verdict-number b m verdict.Right v = view-number b m v
+verdict-number b m verdict.Wrong v = refl
+verdict-number b m verdict.Locked v = refl
+
 -- and so has the reason for any command: what it is refused with, or 0
-pub reason-number : (b : Books) (m : Match) (p : Parsed) → reasonNumber (reasonOf b m p) ≡ deedFor b m p .number
-reason-number b m (parsed.Read c) = view-number b m (viewOf c)
-reason-number b m parsed.Syntax = refl
-reason-number b m parsed.Unknown = refl
+pub reason-number : (g : Guard) (b : Books) (m : Match) (content : List ℕ) (p : Parsed) → reasonNumber (reasonOf g b m p) ≡ deedFor b m (judgedBy g p content .passes) p .number
+reason-number g b m content (parsed.Read c) = verdict-number b m (verdictOf g (trialOf c)) (viewOf c)
+reason-number g b m content parsed.Syntax = refl
+reason-number g b m content parsed.Unknown = refl

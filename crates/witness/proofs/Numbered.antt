@@ -28,19 +28,20 @@ module _ (m : Machine) (lent : Lent) (bytes : List ℕ) where
 
   -- what a call asks for is given
   asked : (call : Call) (l : Port) (frame : List ℕ) (taken : ℕ)
-      → Numbered (record { after = answering call (at (m .device .books) (m .last) (m .sheet) lent l frame) lent; call = call; taken = taken })
+      → Numbered (record { after = answering call (at (m .device .books) (m .device .guard) (m .last) (m .sheet) lent l frame) lent; call = call; taken = taken })
   asked Quiet l frame taken seq code n e = let z : _≡_ {A = ℕ} 0 1 = cc in absurd (omega arith)
   asked Nak l frame taken seq code n e = let z : _≡_ {A = ℕ} 0 1 = cc in absurd (omega arith)
   asked Again l frame taken seq code n e = let z : _≡_ {A = ℕ} 0 1 = cc in absurd (omega arith)
   asked (Order s c k) l frame taken seq code n e =
-      let p : Parsed = parsedOf c (take k (drop 3 frame)) in
-      reason-number (m .device .books) (matchOf (m .sheet) (searchIn (m .device .books) p)) p
+      let content : List ℕ = take k (drop 3 frame) in
+      let p : Parsed = parsedOf c content in
+      reason-number (m .device .guard) (m .device .books) (matchOf (m .sheet) (searchIn (m .device .books) p)) content p
 
   heard : Numbered (hearing m lent bytes)
   heard =
       let x : Listened = listenedTo (m .device .line) (m .frame) bytes in
       let frame : List ℕ = frameBehind (m .device .line) (m .frame) bytes in
-      subst Numbered (two-halves (m .device .books) (m .last) (m .sheet) lent bytes (m .device .line) (m .frame)) (asked (x .call) (x .line) frame (x .taken))
+      subst Numbered (two-halves (m .device .books) (m .device .guard) (m .last) (m .sheet) lent bytes (m .device .line) (m .frame)) (asked (x .call) (x .line) frame (x .taken))
 
   -- PROTOCOL 2.1: of a call that carries out a command: 0 and Done, or what it is refused with and a reason of that number
   pub the-reason-has-the-number : (seq code n : ℕ) → afterPart m lent bytes .call ≡ Order seq code n → reasonNumber (witnessed m lent bytes .reason) ≡ afterPart m lent bytes .after .number

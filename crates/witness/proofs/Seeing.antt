@@ -22,11 +22,11 @@ use Rattle.witness.specs.Witness.{reasonBy, reasonAmong, witnessed}
 -- an order's data, read, what the sheet says to it, and the reason
 module _ (s : Store) (call : Call) (frame : List ℕ) (seq code n k : ℕ) where
   pub reason-is : (p : Parsed) (q : Search) (m : Match) (r : Reason) → call ≡ Order seq code n → length frame ≡ 256 → k ≡ min n 253
-      → p ≡ parsedOf code (take (k + 3 - 3) (drop 3 frame)) → q ≡ searchIn (s .books) p → m ≡ matchOf (s .sheet) q → r ≡ reasonOf (s .books) m p
+      → p ≡ parsedOf code (take (k + 3 - 3) (drop 3 frame)) → q ≡ searchIn (s .books) p → m ≡ matchOf (s .sheet) q → r ≡ reasonOf (s .guard) (s .books) m p
       → r ≡ reasonAmong s (carriedBy call frame)
   reason-is p q m r ec size ek ep eq em er =
-      let read : p ≡ parsedOf code (take n (drop 3 frame)) = ep ∙ ap (parsedOf code) (cut (s .books) call frame seq code n k ec size ek) in
-      er ∙ ap (λ z. reasonOf (s .books) z p) (em ∙ ap (matchOf (s .sheet)) eq) ∙ ap (reasonBy s) read ∙ sym (ap (λ z. reasonAmong s (carriedBy z frame)) ec)
+      let read : p ≡ parsedOf code (take n (drop 3 frame)) = ep ∙ ap (parsedOf code) (cut (s .books) (s .guard) call frame seq code n k ec size ek) in
+      er ∙ ap (λ z. reasonOf (s .guard) (s .books) z p) (em ∙ ap (matchOf (s .sheet)) eq) ∙ ap (reasonBy s) read ∙ sym (ap (λ z. reasonAmong s (carriedBy z frame)) ec)
 
 -- the call and its reason
 module _ (m : Machine) (lent : Lent) (bytes : List ℕ) where

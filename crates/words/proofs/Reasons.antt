@@ -4,7 +4,7 @@ use Prim.Native.Nat.{ℕ}
 use mathlib.Core.List.{List, [], _∷_}
 use lib.ListN.{getD}
 use Rattle.reasons.specs.declared.Reason.{Reason}
-use Rattle.reasons.specs.declared.Reason.the-variants.{Done, Syntax, OutOfRange, Unknown, WrongPassword, ReceiptOpen, ManyReceipts, MemoryFull, NoFiscal, PaymentDone, ManyLines, GroupDisabled, OffAboveLine, NoLineBack, OffAboveGroup, PaidInFull, AboveRest, NotPaid, NoText, LittleCash, ManyFiscal, LineOver, FinishedOver, TotalOver, GroupOver, RegisterOver, DayOver, MemoryOver, CashOver, InOver, OutOver}
+use Rattle.reasons.specs.declared.Reason.the-variants.{Done, Syntax, OutOfRange, Unknown, WrongPassword, Locked, ReceiptOpen, ManyReceipts, MemoryFull, NoFiscal, PaymentDone, ManyLines, GroupDisabled, OffAboveLine, NoLineBack, OffAboveGroup, PaidInFull, AboveRest, NotPaid, NoText, LittleCash, ManyFiscal, LineOver, FinishedOver, TotalOver, GroupOver, RegisterOver, DayOver, MemoryOver, CashOver, InOver, OutOver}
 use Rattle.words.specs.Names.{reasonWord}
 use Rattle.words.specs.Private.{reasonPlace}
 
@@ -15,6 +15,7 @@ table =
     ∷ reasonWord OutOfRange
     ∷ reasonWord Unknown
     ∷ reasonWord WrongPassword
+    ∷ reasonWord Locked
     ∷ reasonWord ReceiptOpen
     ∷ reasonWord ManyReceipts
     ∷ reasonWord MemoryFull
@@ -50,6 +51,7 @@ told Syntax = refl
 told OutOfRange = refl
 told Unknown = refl
 told WrongPassword = refl
+told Locked = refl
 told ReceiptOpen = refl
 told ManyReceipts = refl
 told MemoryFull = refl

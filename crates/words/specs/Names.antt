@@ -6,12 +6,12 @@ use lib.Dec.{ltb}
 use lib.ListN.{getD}
 use Rattle.text.specs.Parts.{firstAt}
 use Rattle.reasons.specs.declared.Reason.{Reason}
-use Rattle.reasons.specs.declared.Reason.the-variants.{Done, Syntax, OutOfRange, Unknown, WrongPassword, ReceiptOpen, ManyReceipts, MemoryFull, NoFiscal, PaymentDone, ManyLines, GroupDisabled, OffAboveLine, NoLineBack, OffAboveGroup, PaidInFull, AboveRest, NotPaid, NoText, LittleCash, ManyFiscal, LineOver, FinishedOver, TotalOver, GroupOver, RegisterOver, DayOver, MemoryOver, CashOver, InOver, OutOver}
+use Rattle.reasons.specs.declared.Reason.the-variants.{Done, Syntax, OutOfRange, Unknown, WrongPassword, Locked, ReceiptOpen, ManyReceipts, MemoryFull, NoFiscal, PaymentDone, ManyLines, GroupDisabled, OffAboveLine, NoLineBack, OffAboveGroup, PaidInFull, AboveRest, NotPaid, NoText, LittleCash, ManyFiscal, LineOver, FinishedOver, TotalOver, GroupOver, RegisterOver, DayOver, MemoryOver, CashOver, InOver, OutOver}
 use Rattle.letters.specs.Letters.{bytes}
 
--- PROTOCOL 5.1: the fifteen codes, what each is called, and the word for every other code
+-- PROTOCOL 5.1: the seventeen codes, what each is called, and the word for every other code
 abbrev pub codes : List ℕ
-codes = 38 ∷ 39 ∷ 42 ∷ 48 ∷ 49 ∷ 51 ∷ 53 ∷ 56 ∷ 60 ∷ 65 ∷ 69 ∷ 70 ∷ 74 ∷ 97 ∷ 100 ∷ []
+codes = 38 ∷ 39 ∷ 42 ∷ 48 ∷ 49 ∷ 51 ∷ 53 ∷ 56 ∷ 60 ∷ 65 ∷ 69 ∷ 70 ∷ 74 ∷ 97 ∷ 100 ∷ 101 ∷ 102 ∷ []
 
 abbrev pub commandWords : List (List ℕ)
 commandWords =
@@ -30,6 +30,8 @@ commandWords =
     ∷ bytes "status"
     ∷ bytes "rates"
     ∷ bytes "a text for the display"
+    ∷ bytes "change a password"
+    ∷ bytes "change a name"
     ∷ bytes "unknown command"
     ∷ []
 
@@ -60,7 +62,8 @@ reasonWord Done = bytes "done"
 reasonWord Syntax = bytes "the data is not of the command's form"
 reasonWord OutOfRange = bytes "a number that no data gives"
 reasonWord Unknown = bytes "there is no such command"
-reasonWord WrongPassword = bytes "the password is not 0000"
+reasonWord WrongPassword = bytes "the password is wrong"
+reasonWord Locked = bytes "three wrong passwords have locked the device"
 reasonWord ReceiptOpen = bytes "a receipt is open"
 reasonWord ManyReceipts = bytes "9999 receipts were opened since the last closing"
 reasonWord MemoryFull = bytes "the memory is full: 1825 closings are made"

@@ -32,6 +32,8 @@ pub fn command_word(code: u8) -> Words
         74,
         97,
         100,
+        101,
+        102,
     ];
     row(
         b"open a non-fiscal receipt\n\
@@ -49,6 +51,8 @@ pub fn command_word(code: u8) -> Words
         status\n\
         rates\n\
         a text for the display\n\
+        change a password\n\
+        change a name\n\
         unknown command\n",
         text::find(&codes, code),
     )
@@ -82,7 +86,8 @@ pub fn reason_word(reason: Reason) -> Words
         the data is not of the command's form\n\
         a number that no data gives\n\
         there is no such command\n\
-        the password is not 0000\n\
+        the password is wrong\n\
+        three wrong passwords have locked the device\n\
         a receipt is open\n\
         9999 receipts were opened since the last closing\n\
         the memory is full: 1825 closings are made\n\
@@ -123,32 +128,33 @@ fn reason_place(reason: Reason) -> usize
         Reason::OutOfRange => 2,
         Reason::Unknown => 3,
         Reason::WrongPassword => 4,
-        Reason::ReceiptOpen => 5,
-        Reason::ManyReceipts => 6,
-        Reason::MemoryFull => 7,
-        Reason::NoFiscal => 8,
-        Reason::PaymentDone => 9,
-        Reason::ManyLines => 10,
-        Reason::GroupDisabled => 11,
-        Reason::OffAboveLine => 12,
-        Reason::NoLineBack => 13,
-        Reason::OffAboveGroup => 14,
-        Reason::PaidInFull => 15,
-        Reason::AboveRest => 16,
-        Reason::NotPaid => 17,
-        Reason::NoText => 18,
-        Reason::LittleCash => 19,
-        Reason::ManyFiscal => 20,
-        Reason::LineOver => 21,
-        Reason::FinishedOver => 22,
-        Reason::TotalOver => 23,
-        Reason::GroupOver => 24,
-        Reason::RegisterOver => 25,
-        Reason::DayOver => 26,
-        Reason::MemoryOver => 27,
-        Reason::CashOver => 28,
-        Reason::InOver => 29,
-        Reason::OutOver => 30,
+        Reason::Locked => 5,
+        Reason::ReceiptOpen => 6,
+        Reason::ManyReceipts => 7,
+        Reason::MemoryFull => 8,
+        Reason::NoFiscal => 9,
+        Reason::PaymentDone => 10,
+        Reason::ManyLines => 11,
+        Reason::GroupDisabled => 12,
+        Reason::OffAboveLine => 13,
+        Reason::NoLineBack => 14,
+        Reason::OffAboveGroup => 15,
+        Reason::PaidInFull => 16,
+        Reason::AboveRest => 17,
+        Reason::NotPaid => 18,
+        Reason::NoText => 19,
+        Reason::LittleCash => 20,
+        Reason::ManyFiscal => 21,
+        Reason::LineOver => 22,
+        Reason::FinishedOver => 23,
+        Reason::TotalOver => 24,
+        Reason::GroupOver => 25,
+        Reason::RegisterOver => 26,
+        Reason::DayOver => 27,
+        Reason::MemoryOver => 28,
+        Reason::CashOver => 29,
+        Reason::InOver => 30,
+        Reason::OutOver => 31,
     }
 }
 

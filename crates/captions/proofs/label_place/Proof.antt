@@ -109,10 +109,14 @@ returns-34 c = sym (ap labelPlace (c .enum-told34 .given .1))
 returns-35 : tie.Need-returns-35
 returns-35 c = sym (ap labelPlace (c .enum-told35 .given .1))
 
+returns-36 : tie.Need-returns-36
+returns-36 c = sym (ap labelPlace (c .enum-told36 .given .1))
+
 pub label-place-spec : {M : Type 1} → statement M
 label-place-spec =
     tie.close
     (tie.spec
+    (λ c. search needs)
     (λ c. search needs)
     (λ c. search needs)
     (λ c. search needs)
@@ -182,4 +186,5 @@ label-place-spec =
     returns-32
     returns-33
     returns-34
-    returns-35)
+    returns-35
+    returns-36)

@@ -20,6 +20,7 @@ table =
     ∷ labelWord label.Data
     ∷ labelWord label.Operator
     ∷ labelWord label.Password
+    ∷ labelWord label.NewPassword
     ∷ labelWord label.TillNumber
     ∷ labelWord label.Group
     ∷ labelWord label.TakenBack
@@ -59,6 +60,7 @@ told label.Cmd = refl
 told label.Data = refl
 told label.Operator = refl
 told label.Password = refl
+told label.NewPassword = refl
 told label.TillNumber = refl
 told label.Group = refl
 told label.TakenBack = refl

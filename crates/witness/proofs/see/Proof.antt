@@ -8,7 +8,7 @@ use Rattle.witness.proofs.see.Tie as tie
 
 returns : tie.Need-returns
 returns c =
-    let told = c .before .before .before .before .before .before in
+    let told = c .before .before .before .before .before .before .before in
     let called = told .before .before .before .before .before in
     let a = called .before .before .before .before .before .before .before .before .args in (
       seen-is (machineOf (a .kept) (now (a .frame)) (now (a .last))) (record { buffer = now (a .buf); lines = 512; display = now (a .display) }) (drop (a .from) (now (a .bytes))) _ (c .why .result) (called .hear-next .ensures .0) (c .why .ensures),

@@ -10,17 +10,17 @@ use Rattle.witness.proofs.why.Tie as tie
 returns : tie.Need-returns
 returns c =
     let a = c .before .before .before .args in
-    sym (ap (λ z. reasonAmong (record { books = a .books; sheet = a .sheet }) (carriedBy z (now (a .frame)))) (c .enum-told .given .1))
+    sym (ap (λ z. reasonAmong (record { books = a .books; sheet = a .sheet; guard = a .guard }) (carriedBy z (now (a .frame)))) (c .enum-told .given .1))
 
 returns-2 : tie.Need-returns-2
 returns-2 c =
     let a = c .before .before .before .args in
-    sym (ap (λ z. reasonAmong (record { books = a .books; sheet = a .sheet }) (carriedBy z (now (a .frame)))) (c .enum-told2 .given .1))
+    sym (ap (λ z. reasonAmong (record { books = a .books; sheet = a .sheet; guard = a .guard }) (carriedBy z (now (a .frame)))) (c .enum-told2 .given .1))
 
 returns-3 : tie.Need-returns-3
 returns-3 c =
     let a = c .before .before .before .args in
-    sym (ap (λ z. reasonAmong (record { books = a .books; sheet = a .sheet }) (carriedBy z (now (a .frame)))) (c .enum-told3 .given .1))
+    sym (ap (λ z. reasonAmong (record { books = a .books; sheet = a .sheet; guard = a .guard }) (carriedBy z (now (a .frame)))) (c .enum-told3 .given .1))
 
 returns-4 : tie.Need-returns-4
 returns-4 c =
@@ -29,7 +29,7 @@ returns-4 c =
     let called = cut .before .before in
     let start = called .before .before .before in
     let a = start .args in
-    reason-is (record { books = a .books; sheet = a .sheet }) (a .call) (now (a .frame)) _ _ _ (cut .least-size .result)
+    reason-is (record { books = a .books; sheet = a .sheet; guard = a .guard }) (a .call) (now (a .frame)) _ _ _ (cut .least-size .result)
     (asked .before .parse .result) (asked .search-in .result) (c .before .match-kept .result) (c .reason-of .result)
     (called .call .given .1) (start .pre) (cut .least-size .ensures) (asked .before .parse .ensures) (asked .search-in .ensures) (c .before .match-kept .ensures) (c .reason-of .ensures)
 

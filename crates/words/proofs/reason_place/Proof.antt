@@ -97,10 +97,14 @@ returns-30 c = sym (ap reasonPlace (c .enum-told30 .given .1))
 returns-31 : tie.Need-returns-31
 returns-31 c = sym (ap reasonPlace (c .enum-told31 .given .1))
 
+returns-32 : tie.Need-returns-32
+returns-32 c = sym (ap reasonPlace (c .enum-told32 .given .1))
+
 pub reason-place-spec : {M : Type 1} → statement M
 reason-place-spec =
     tie.close
     (tie.spec
+    (λ c. search needs)
     (λ c. search needs)
     (λ c. search needs)
     (λ c. search needs)
@@ -162,4 +166,5 @@ reason-place-spec =
     returns-28
     returns-29
     returns-30
-    returns-31)
+    returns-31
+    returns-32)

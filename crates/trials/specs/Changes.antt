@@ -1,0 +1,76 @@
+-- PROTOCOL 5.18, 5.19: what becomes of passwords and names with one command: told from the command and from what stood before it.
+use Prim.Native.Nat.{ℕ}
+use mathlib.Core.Path.{_≡_}
+use mathlib.Core.Bool.{Bool, cond, not, _&&_}
+use mathlib.Core.List.{List}
+use lib.Dec.{eqb}
+use lib.ListN.{length, take}
+use Rattle.kinds.specs.Operators.{nameIn}
+use Rattle.kinds.specs.declared.Command.{Command}
+use Rattle.kinds.specs.declared.Command.the-variants.{OpenText, CloseText, PrintText, Open, Sell, Subtotal, Pay, Close, Cancel, Sums, Closing, Drawer, Status, Rates, ShowText, ChangePassword, ChangeName}
+use Rattle.kinds.specs.declared.Parsed.{Parsed}
+use Rattle.kinds.specs.declared.Parsed.the-variants.{Read, Syntax, Unknown}
+use Rattle.kinds.specs.declared.Password.{Password}
+use Rattle.guard.specs.Guard.{passwordOf, nameOf, isRight, isLocked}
+use Rattle.guard.specs.declared.Guard.{Guard}
+
+-- what the types say: eight passwords, eight names, and 24 bytes for each
+pub record Wide (g : Guard) : Type 0 where
+  pub digits : length (g .digits) ≡ 8
+  pub values : length (g .values) ≡ 8
+  pub sizes : length (g .sizes) ≡ 8
+  pub names : length (g .names) ≡ 192
+
+-- PROTOCOL 5.20: a password that is given passes: it is the operator's, and the device is not locked
+abbrev pub passesBy : Guard → (op : ℕ) → Password → Bool
+passesBy g op password = not (isLocked g) && isRight g op password
+
+-- PROTOCOL 5.18: only a 101 of this operator, with the old password given, changes a password, and that into the new one
+abbrev pub passwordBy : Guard → (op : ℕ) → Command → Password
+passwordBy g op (ChangePassword of old new) = cond (eqb of op && passesBy g of old) new (passwordOf g op)
+passwordBy g op (ChangeName of password) = passwordOf g op
+passwordBy g op (Open of password till) = passwordOf g op
+passwordBy g op OpenText = passwordOf g op
+passwordBy g op CloseText = passwordOf g op
+passwordBy g op PrintText = passwordOf g op
+passwordBy g op (Sell s) = passwordOf g op
+passwordBy g op (Subtotal print show) = passwordOf g op
+passwordBy g op (Pay p) = passwordOf g op
+passwordBy g op Close = passwordOf g op
+passwordBy g op Cancel = passwordOf g op
+passwordBy g op (Sums taxes) = passwordOf g op
+passwordBy g op (Closing clears) = passwordOf g op
+passwordBy g op (Drawer s) = passwordOf g op
+passwordBy g op Status = passwordOf g op
+passwordBy g op Rates = passwordOf g op
+passwordBy g op ShowText = passwordOf g op
+
+abbrev pub passwordAfter : Guard → (op : ℕ) → Parsed → Password
+passwordAfter g op (Read c) = passwordBy g op c
+passwordAfter g op Syntax = passwordOf g op
+passwordAfter g op Unknown = passwordOf g op
+
+-- PROTOCOL 5.19: only a 102 of this operator, with the password given, changes a name, and that into the one in its data
+abbrev pub nameBy : Guard → (op : ℕ) → Command → (content : List ℕ) → List ℕ
+nameBy g op (ChangeName of password) content = cond (eqb of op && passesBy g of password) (take 24 (nameIn content)) (nameOf g op)
+nameBy g op (ChangePassword of old new) content = nameOf g op
+nameBy g op (Open of password till) content = nameOf g op
+nameBy g op OpenText content = nameOf g op
+nameBy g op CloseText content = nameOf g op
+nameBy g op PrintText content = nameOf g op
+nameBy g op (Sell s) content = nameOf g op
+nameBy g op (Subtotal print show) content = nameOf g op
+nameBy g op (Pay p) content = nameOf g op
+nameBy g op Close content = nameOf g op
+nameBy g op Cancel content = nameOf g op
+nameBy g op (Sums taxes) content = nameOf g op
+nameBy g op (Closing clears) content = nameOf g op
+nameBy g op (Drawer s) content = nameOf g op
+nameBy g op Status content = nameOf g op
+nameBy g op Rates content = nameOf g op
+nameBy g op ShowText content = nameOf g op
+
+abbrev pub nameAfter : Guard → (op : ℕ) → Parsed → (content : List ℕ) → List ℕ
+nameAfter g op (Read c) content = nameBy g op c content
+nameAfter g op Syntax content = nameOf g op
+nameAfter g op Unknown content = nameOf g op
