@@ -1,12 +1,12 @@
--- A password changes by a 101 of its operator alone, a name by a 102, and both only with the password that stood.
-use mathlib.Core.Path.{_≡_, refl, sym, ap, _∙_, subst}
-use mathlib.Core.Bool.{Bool, true, false, cond, not, _&&_, false≢true}
+-- A password changes by a 101 of its operator alone, and only with the password that stood.
+use mathlib.Core.Path.{_≡_, refl, sym, ap, _∙_}
+use mathlib.Core.Bool.{Bool, true, false, cond, not, _&&_}
 use mathlib.Core.List.{List}
-use Prim.Native.Nat.{ℕ, _-_, _*_, _≤_, _<_}
+use Prim.Native.Nat.{ℕ, _-_, _*_, _≤_}
 use native.Mathlib.Omega.{arith}
 use lib.Dec.{leb, eqb}
-use lib.ListN.{length, getD, set, take, length-set}
-use lib.Seq.{sets, length-sets, getD-set-same, getD-set-other}
+use lib.ListN.{length, take, length-set}
+use lib.Seq.{length-sets, getD-set-same, getD-set-other}
 use borrow.Author.Tests.{leb-true, eqb-true, eqb-false}
 use Rattle.basics.proofs.Tests.{both}
 use Rattle.kinds.specs.Operators.{nameIn}
@@ -18,10 +18,9 @@ use Rattle.kinds.specs.declared.Password.{Password}
 use Rattle.guard.proofs.Verdicts.{judged-free}
 use Rattle.guard.specs.Guard.{freshGuard, isOp, passwordOf, isLocked, isRight, withCount, calmed, withPassword, withName, trialOf, verdictOf, passes, changedBy, countAfter, judgedOf, judgedBy}
 use Rattle.guard.specs.declared.Guard.{Guard}
-use Rattle.guard.specs.declared.Judged.{Judged}
 use Rattle.guard.specs.declared.Trial.the-variants as trial
 use Rattle.guard.specs.declared.Verdict.the-variants.{Right, Wrong, Locked}
-use Rattle.trials.specs.Changes.{Wide, passesBy, passwordBy, passwordAfter}
+use Rattle.trials.specs.Changes.{Wide, passwordBy, passwordAfter}
 
 -- an operator's number
 pub op-from : (op : ℕ) → isOp op ≡ true → 1 ≤ op
@@ -125,7 +124,7 @@ name-keeps g of op name = go (isOp of) refl
     go false is = rw is
 
 -- what one test more decides
-when-both : {A : Type 0} (b e : Bool) (x y z : A) → z ≡ cond e x y → cond b z y ≡ cond (e && b) x y
+pub when-both : {A : Type 0} (b e : Bool) (x y z : A) → z ≡ cond e x y → cond b z y ≡ cond (e && b) x y
 when-both true true x y z h = h
 when-both true false x y z h = h
 when-both false true x y z h = refl
@@ -135,7 +134,7 @@ password-of-either : (b : Bool) (g h : Guard) (op n : ℕ) → passwordOf (withC
 password-of-either true g h op n = refl
 password-of-either false g h op n = refl
 
-same-either : {A : Type 0} (b : Bool) (x : A) → cond b x x ≡ x
+pub same-either : {A : Type 0} (b : Bool) (x : A) → cond b x x ≡ x
 same-either true x = refl
 same-either false x = refl
 

@@ -1,2 +1,3 @@
 pub mod Locking
 pub mod Changing
+pub mod Names
