@@ -1,1 +1,3 @@
 pub mod Locking
+pub mod Changing
+pub mod Names
