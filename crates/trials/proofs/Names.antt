@@ -25,12 +25,8 @@ use Rattle.kinds.specs.declared.operators.Third.the-variants as third
 use Rattle.guard.specs.Guard.{freshGuard, isOp, nameOf, isLocked, isRight, withCount, calmed, withPassword, withName, trialOf, verdictOf, passes, changedBy, countAfter, judgedOf, judgedBy}
 use Rattle.guard.specs.declared.Guard.{Guard}
 use Rattle.guard.specs.declared.Trial.the-variants as trial
-use Rattle.trials.specs.Changes.{Wide, nameBy, nameAfter}
+use Rattle.trials.specs.Changes.{Wide, Short, nameBy, nameAfter}
 use Rattle.trials.proofs.Changing.{op-from, op-to, apart, passes-as, when-both, same-either}
-
--- PROTOCOL 5.19: no name is longer than its place; a longer one would reach into the next operator's
-pub record Short (g : Guard) : Type 0 where
-  pub sizes : (i : ℕ) → getD (g .sizes) i 0 ≤ 24
 
 none-set : (n i : ℕ) → getD (replicate n 0) i 0 ≤ 24
 none-set zero i = omega arith

@@ -1,10 +1,10 @@
 -- PROTOCOL 5.18, 5.19: what becomes of passwords and names with one command: told from the command and from what stood before it.
-use Prim.Native.Nat.{ℕ}
+use Prim.Native.Nat.{ℕ, _≤_}
 use mathlib.Core.Path.{_≡_}
 use mathlib.Core.Bool.{Bool, cond, not, _&&_}
 use mathlib.Core.List.{List}
 use lib.Dec.{eqb}
-use lib.ListN.{length, take}
+use lib.ListN.{length, getD, take}
 use Rattle.kinds.specs.Operators.{nameIn}
 use Rattle.kinds.specs.declared.Command.{Command}
 use Rattle.kinds.specs.declared.Command.the-variants.{OpenText, CloseText, PrintText, Open, Sell, Subtotal, Pay, Close, Cancel, Sums, Closing, Drawer, Status, Rates, ShowText, ChangePassword, ChangeName}
@@ -20,6 +20,10 @@ pub record Wide (g : Guard) : Type 0 where
   pub values : length (g .values) ≡ 8
   pub sizes : length (g .sizes) ≡ 8
   pub names : length (g .names) ≡ 192
+
+-- PROTOCOL 5.19: no name is longer than its place; a longer one would reach into the next operator's
+pub record Short (g : Guard) : Type 0 where
+  pub sizes : (i : ℕ) → getD (g .sizes) i 0 ≤ 24
 
 -- PROTOCOL 5.20: a password that is given passes: it is the operator's, and the device is not locked
 abbrev pub passesBy : Guard → (op : ℕ) → Password → Bool
