@@ -15,7 +15,7 @@ use Rattle.till.specs.declared.Word.the-variants.{TooShort}
 use Rattle.till.proofs.Turning.{failsBy}
 use Rattle.promises.specs.AtTill.{isFailed, fails, row-0-byte, row-0-answered, row-8}
 use Rattle.promises.specs.AtTill as at-till-end
-use Rattle.promises.specs.Demand1.{Bench, Comes, atDevice, atTill, fromTill, Outcome, ByTheTable, at-till}
+use Rattle.promises.specs.Demand1.{Bench, Comes, atDevice, atTill, switching, fromTill, Outcome, ByTheTable, at-till, at-switching}
 use Rattle.promises.specs.Ends.{ofTill, outcomeOf, Beyond, more-tries}
 use Rattle.promises.proofs.TillRows.{taking}
 use Rattle.promises.proofs.Demand1.{by-the-device}
@@ -61,6 +61,7 @@ module _ (d : line.State Store) (buffer : List ℕ) (room : 210 ≤ length buffe
 -- the theorem
 pub in-any-state : (s : Bench) (c : Comes) → ByTheTable s c (outcomeOf s c) ⊎ Beyond s c (outcomeOf s c)
 in-any-state s (atDevice lent byte) = inl (by-the-device s lent byte)
+in-any-state s switching = inl at-switching
 in-any-state s (atTill buffer h) = go (ltb (length buffer) 210) refl
   where
     go : (short : Bool) → ltb (length buffer) 210 ≡ short → Says s (atTill buffer h) (fromTill (ofTill buffer (cond short (till.stays TooShort (s .till)) (till.takes (s .till) h))))

@@ -21,14 +21,15 @@ use Rattle.history.proofs.Reaching.{fresh-reached, reached-stays}
 use Rattle.line.specs.Turns as line
 use Rattle.sheet.specs.Searches.{matchOf}
 use Rattle.carrying.specs.Carrying.{searchIn, deedFor, carry}
+use Rattle.guard.specs.Guard.{judgedBy}
 use Rattle.store.specs.Store.{Store}
 use Rattle.machine.specs.Device.{Lent, enough, lentTurn}
 use Rattle.till.specs.Turns as till
 use Rattle.till.specs.declared.Word.the-variants.{Unfinished, TooShort, NotSent}
 use Rattle.till.proofs.Turning.{failsBy}
-use Rattle.promises.specs.AtDevice.{ByDevice}
+use Rattle.promises.specs.AtDevice.{ByDevice, anew}
 use Rattle.promises.specs.AtTill.{replies, fails, noneWaits, row-9}
-use Rattle.promises.specs.Demand1.{Bench, freshBench, Comes, atDevice, atTill, Outcome, fromDevice, fromTill, benchAfter, ByTheTable, at-device, at-till, AllByTheTable, no-more, then}
+use Rattle.promises.specs.Demand1.{Bench, freshBench, Comes, atDevice, atTill, switching, Outcome, fromDevice, fromTill, switched, benchAfter, ByTheTable, at-device, at-till, at-switching, AllByTheTable, no-more, then}
 use Rattle.promises.specs.Ends.{ofDevice, ofTill, outcomeOf, outcomesOf}
 use Rattle.promises.proofs.DeviceRows as device-rows
 use Rattle.promises.proofs.TillRows as till-rows
@@ -37,10 +38,12 @@ use Rattle.promises.proofs.TillRows as till-rows
 abbrev tableReply : Bench → Comes → Outcome
 tableReply s (atDevice lent byte) = fromDevice (ofDevice lent (device-rows.tableTurn (s .device) lent byte))
 tableReply s (atTill buffer h) = fromTill (ofTill buffer (till.hears (length buffer) (s .till) h))
+tableReply s switching = switched (anew (s .device))
 
 only-this : (s : Bench) (c : Comes) (r : Outcome) → ByTheTable s c r → r ≡ tableReply s c
 only-this s c r (at-device {lent = lent} {byte = byte} {r = x} b) = ap fromDevice (device-rows.only-row (s .device) lent byte x b)
 only-this s c r (at-till {buffer = buffer} {h = h} {r = x} b) = ap fromTill (till-rows.only-row (s .till) buffer h x b)
+only-this s c r at-switching = refl
 
 pub the-reply-is-the-only-one : (s : Bench) (c : Comes) (r other : Outcome) → ByTheTable s c r → ByTheTable s c other → r ≡ other
 the-reply-is-the-only-one s c r other b d = only-this s c r b ∙ sym (only-this s c other d)
@@ -70,10 +73,11 @@ pub by-the-till-end : (s : Bench) → till-rows.triesOf (s .till .pending) ≤ 5
 by-the-till-end s few buffer h = at-till (till-rows.has-its-row (s .till) buffer h few)
 
 -- which every event leaves: the books are such as a fresh device comes to
-pub deed-stays : (b : Books) (m : Match) (p : Parsed) → Reached b → Reached (deedFor b m p .books)
-deed-stays b m (Read c) r = reached-stays b m c r
-deed-stays b m Syntax r = r
-deed-stays b m Unknown r = r
+pub deed-stays : (b : Books) (m : Match) (let-pass : Bool) (p : Parsed) → Reached b → Reached (deedFor b m let-pass p .books)
+deed-stays b m true (Read c) r = reached-stays b m c r
+deed-stays b m false (Read c) r = r
+deed-stays b m let-pass Syntax r = r
+deed-stays b m let-pass Unknown r = r
 
 pub event-stays : (s : line.State Store) (next : Place) (e : Event) → Reached (s .store .books) → Reached (line.onEvent carry s next e .state .store .books)
 event-stays s next nothing r = r
@@ -84,7 +88,7 @@ event-stays s next (heard m) r = go (line.repeats (s .before) m)
     go true = r
     go false =
         let p = parsedOf (m .code) (m .content) in
-        deed-stays (s .store .books) (matchOf (s .store .sheet) (searchIn (s .store .books) p)) p r
+        deed-stays (s .store .books) (matchOf (s .store .sheet) (searchIn (s .store .books) p)) (judgedBy (s .store .guard) p (m .content) .passes) p r
 
 pub turn-stays : (lent : Lent) (s : line.State Store) (byte : ℕ) → Reached (s .store .books) → Reached (lentTurn lent s byte .state .store .books)
 turn-stays lent s byte r = go (enough lent)
@@ -139,10 +143,12 @@ fresh-proper sheet = record { books = fresh-reached; tries = omega arith }
 pub proper-stays : (s : Bench) → Proper s → (c : Comes) → Proper (benchAfter s (outcomeOf s c))
 proper-stays s p (atDevice lent byte) = record { books = turn-stays lent (s .device) byte (p .books); tries = p .tries }
 proper-stays s p (atTill buffer h) = record { books = p .books; tries = tries-stay (length buffer) (s .till) h (p .tries) }
+proper-stays s p switching = record { books = p .books; tries = p .tries }
 
 by-both : (s : Bench) → Proper s → (c : Comes) → ByTheTable s c (outcomeOf s c)
 by-both s p (atDevice lent byte) = by-the-device s lent byte
 by-both s p (atTill buffer h) = by-the-till-end s (p .tries) buffer h
+by-both s p switching = at-switching
 
 from-proper : (s : Bench) → Proper s → (cs : List Comes) → AllByTheTable s cs (outcomesOf s cs)
 from-proper s p [] = no-more

@@ -1,7 +1,7 @@
 -- Demand 2: "Frames, answers, sums and status bytes are those of the protocol papers as document 01 condenses them, built and read alike. Cash
 -- equals all that was put in less all that was taken out, over the whole history."
 use mathlib.Core.Path.{_≡_, refl, sym, ap, _∙_}
-use mathlib.Core.Bool.{true}
+use mathlib.Core.Bool.{Bool, true, false}
 use mathlib.Core.List.{List, [], _∷_, _++_}
 use Prim.Native.Nat.{ℕ, _+_, _-_, _^_, _≤_, _<_}
 use native.Mathlib.Omega.{arith}
@@ -24,6 +24,7 @@ use Rattle.sheet.specs.declared.Match.{Match}
 use Rattle.books.specs.Groups.{at}
 use Rattle.rules.specs.declared.views.View.the-variants.{Sells}
 use Rattle.store.specs.Commands.{deedOn}
+use Rattle.guard.specs.Guard.{judgedBy}
 use Rattle.store.specs.Store.{Store}
 use Rattle.answers.proofs.Shown.{shown-sendable}
 use Rattle.history.specs.Agrees.{Agrees, toldBooks}
@@ -45,7 +46,7 @@ use Rattle.attempts.specs.History as till
 use Rattle.till.specs.declared.Word.the-variants.{Waiting, Answered}
 use Rattle.attempts.proofs.Frames.{answer-heard}
 use Rattle.promises.specs.Coded.{Machines, Fresh, HeardThrough}
-use Rattle.promises.specs.Demand2.{LentByte, alwaysLent, turnBy, turnsOf, deviceAfter, allGiven, allCarried, dataIn, freshDevice, entriesOf, storeAfter, booksAfter, cashIn}
+use Rattle.promises.specs.Demand2.{Moment, alwaysLent, turnBy, turnsOf, deviceAfter, allGiven, allCarried, dataIn, freshDevice, entriesOf, storeAfter, booksAfter, cashIn}
 use Rattle.promises.proofs.Through.{the-calls-are-the-recording}
 use Rattle.promises.proofs.Demand1.{deed-stays}
 use Rattle.promises.proofs.Joining.{any-history-reached, any-history-agrees, device-after-one, session-turns, cash-in-answer}
@@ -64,26 +65,26 @@ what-is-read-was-built = built-is-all-that-is-read
 -- a fresh device, whatever the sheet of 512 lines or more held that it is lent
 module _ (sheet : List Line) (lines : 512 ≤ length sheet) where
   -- what it makes of a command, after any bytes
-  abbrev deedTo : List LentByte → Message → Deed
+  abbrev deedTo : List Moment → Message → Deed
   deedTo arrived m =
       let p = parsedOf (m .code) (m .content) in
       let s = storeAfter sheet arrived in
-      deedFor (s .books) (matchOf (s .sheet) (searchIn (s .books) p)) p
+      deedFor (s .books) (matchOf (s .sheet) (searchIn (s .books) p)) (judgedBy (s .guard) p (m .content) .passes) p
 
   -- every answer of a device that was fresh, to whatever can be sent, is an answer that can be sent
-  pub every-answer-can-be-sent : (arrived : List LentByte) (m : Message) → sendable ToDevice m ≡ true
+  pub every-answer-can-be-sent : (arrived : List Moment) (m : Message) → sendable ToDevice m ≡ true
       → sendable ToTill (answerTo (booksAfter sheet arrived) (m .seq) (m .code) (deedTo arrived m)) ≡ true
   every-answer-can-be-sent arrived m e =
       let s = storeAfter sheet arrived in
       let p = parsedOf (m .code) (m .content) in
       let d = deedTo arrived m in
       let before = any-history-reached sheet lines arrived in
-      let after = deed-stays (s .books) (matchOf (s .sheet) (searchIn (s .books) p)) p before in
+      let after = deed-stays (s .books) (matchOf (s .sheet) (searchIn (s .books) p)) (judgedBy (s .guard) p (m .content) .passes) p before in
       let marks = parts ToDevice m e in
       shown-sendable (m .seq) (m .code) (d .number) (d .shown) (s .books .day) (d .books) (marks .seq) (marks .code) (before .eight-sums) (after .eight-sums) (after .receipt .eight-groups)
 
   -- and a till end that waits for it, wherever its reading stands, says Waiting up to its last byte and then Answered, with its data and status
-  pub both-ends-speak-alike : (arrived : List LentByte) (m : Message) → sendable ToDevice m ≡ true
+  pub both-ends-speak-alike : (arrived : List Moment) (m : Message) → sendable ToDevice m ≡ true
       → (s : turns.State) (sent : List ℕ) (tries : ℕ) (ear : turns.Ear) → s .pending ≡ turns.waits (m .seq) (m .code) sent tries ear
       → let a = answerTo (booksAfter sheet arrived) (m .seq) (m .code) (deedTo arrived m) in
       let heard-bytes = heardBytes (carry (storeAfter sheet arrived) m .answer) in
@@ -103,8 +104,8 @@ module _ (sheet : List Line) (lines : 512 ≤ length sheet) where
       }
   a-recording-is-its-turns bytes = session-turns (freshDevice sheet) bytes
 
-  -- cash, for all bytes that arrive at a fresh device, whatever is lent with each
-  pub cash-is-put-in-less-taken-out : (arrived : List LentByte)
+  -- cash, for all bytes that arrive at a fresh device, whatever is lent with each, however often it is switched on anew
+  pub cash-is-put-in-less-taken-out : (arrived : List Moment)
       → (booksAfter sheet arrived .drawer .cash ≡ putIn (entriesOf sheet arrived) - takenOut (entriesOf sheet arrived))
       × (takenOut (entriesOf sheet arrived) ≤ putIn (entriesOf sheet arrived))
   cash-is-put-in-less-taken-out arrived =
@@ -112,7 +113,7 @@ module _ (sheet : List Line) (lines : 512 ≤ length sheet) where
       (d .cash, d .covered)
 
   -- and it can be seen: the Cash field of every answer to a 70 that is done, read back as a number
-  pub cash-is-seen : (arrived : List LentByte) (a : LentByte) → let t = turnBy (deviceAfter (freshDevice sheet) arrived) a in
+  pub cash-is-seen : (arrived : List Moment) (a : Moment) → let t = turnBy (deviceAfter (freshDevice sheet) arrived) a in
       (m : Message) (s : Service) → t .carried ≡ m ∷ [] → parsedOf (m .code) (m .content) ≡ Read (Drawer s) → t .number ≡ 0
       → cashIn (dataIn (t .gives)) ≡ putIn (entriesOf sheet (arrived ++ a ∷ [])) - takenOut (entriesOf sheet (arrived ++ a ∷ []))
   cash-is-seen arrived a m s one is70 zero =
@@ -122,15 +123,15 @@ module _ (sheet : List Line) (lines : 512 ≤ length sheet) where
 
   -- and every other figure (PROTOCOL 8.3): the open receipt, its lines, whether a 53 was done and whether it is paid in full, day sums, registers, service sums,
   -- counters, closings and FM; and the sheet has the lines of the open receipt
-  pub every-figure-follows : (arrived : List LentByte) → Agrees (entriesOf sheet arrived) (storeAfter sheet arrived)
+  pub every-figure-follows : (arrived : List Moment) → Agrees (entriesOf sheet arrived) (storeAfter sheet arrived)
   every-figure-follows = any-history-agrees sheet lines
 
   -- what is due is never cut off at zero
-  pub no-more-paid-than-due : (arrived : List LentByte) → paidSum (entriesOf sheet arrived) ≤ receiptTotal (entriesOf sheet arrived)
+  pub no-more-paid-than-due : (arrived : List Moment) → paidSum (entriesOf sheet arrived) ≤ receiptTotal (entriesOf sheet arrived)
   no-more-paid-than-due arrived = never-overpaid (entriesOf sheet arrived) (storeAfter sheet arrived) (any-history-reached sheet lines arrived) (any-history-agrees sheet lines arrived)
 
   -- so the entries alone tell the books, no field left out
-  pub the-entries-tell-the-books : (arrived : List LentByte) → booksAfter sheet arrived ≡ toldBooks (entriesOf sheet arrived)
+  pub the-entries-tell-the-books : (arrived : List Moment) → booksAfter sheet arrived ≡ toldBooks (entriesOf sheet arrived)
   the-entries-tell-the-books arrived = agreed-is-told (entriesOf sheet arrived) (storeAfter sheet arrived) (any-history-reached sheet lines arrived) (any-history-agrees sheet lines arrived)
 
   pub and-those-of-a-recording : (bytes : List ℕ) → recording sheet bytes .state .store .books ≡ toldBooks (entriesOf sheet (alwaysLent bytes))
@@ -138,28 +139,30 @@ module _ (sheet : List Line) (lines : 512 ≤ length sheet) where
       ap (λ (z : Session Store). z .state .store .books) (a-recording-is-its-turns bytes) ∙ the-entries-tell-the-books (alwaysLent bytes)
 
   -- request 2026-01: the eight groups of the open receipt are its lines that stand, told from the entries
-  pub the-groups-are-the-lines-that-stand : (arrived : List LentByte) (g : ℕ) → g < 8
+  pub the-groups-are-the-lines-that-stand : (arrived : List Moment) (g : ℕ) → g < 8
       → at (booksAfter sheet arrived .receipt .groups) g ≡ worthOf g (linesIn (entriesOf sheet arrived))
   the-groups-are-the-lines-that-stand arrived = the-groups-are-what-stands (entriesOf sheet arrived) (storeAfter sheet arrived) (any-history-agrees sheet lines arrived)
 
   -- and whatever line is done with `-` takes back one that was really sold on this receipt, its finished amount, once
-  pub a-line-off-was-really-sold : (arrived : List LentByte) (x : Sale) → let s = storeAfter sheet arrived in
+  pub a-line-off-was-really-sold : (arrived : List Moment) (x : Sale) → let s = storeAfter sheet arrived in
       deedOn s (Sells x) .number ≡ 0 → x .minus ≡ true
       → TookBack x (entriesOf sheet arrived) (entryOf (s .books) (Sell x) (deedOn s (Sells x)) ∷ entriesOf sheet arrived)
   a-line-off-was-really-sold arrived x done minus =
       a-line-off-takes-back-one-sold (entriesOf sheet arrived) (storeAfter sheet arrived) x (any-history-reached sheet lines arrived) (any-history-agrees sheet lines arrived) done minus
 
   -- "No field shown ever passes its digits."
-  pub every-field-fits : (arrived : List LentByte) → InDigits (booksAfter sheet arrived)
+  pub every-field-fits : (arrived : List Moment) → InDigits (booksAfter sheet arrived)
   every-field-fits arrived = digits-fit (booksAfter sheet arrived) (any-history-reached sheet lines arrived)
 
-  pub rest-and-change-fit-too : (arrived : List LentByte) (code : ℕ) (content : List ℕ) (m : Match) → leftOf (deedFor (booksAfter sheet arrived) m (parsedOf code content) .shown) < 10 ^ 10
-  rest-and-change-fit-too arrived code content m = go (parsedOf code content) (parsed-right code content)
+  pub rest-and-change-fit-too : (arrived : List Moment) (code : ℕ) (content : List ℕ) (m : Match) (let-pass : Bool)
+      → leftOf (deedFor (booksAfter sheet arrived) m let-pass (parsedOf code content) .shown) < 10 ^ 10
+  rest-and-change-fit-too arrived code content m let-pass = go let-pass (parsedOf code content) (parsed-right code content)
     where
-      go : (x : Parsed) → Right x → leftOf (deedFor (booksAfter sheet arrived) m x .shown) < 10 ^ 10
-      go (Read c) (is-read r) = rest-and-change-fit (booksAfter sheet arrived) m c (any-history-reached sheet lines arrived) r
-      go Syntax syntax = omega arith
-      go Unknown no-kind = omega arith
+      go : (let-pass : Bool) (x : Parsed) → Right x → leftOf (deedFor (booksAfter sheet arrived) m let-pass x .shown) < 10 ^ 10
+      go true (Read c) (is-read r) = rest-and-change-fit (booksAfter sheet arrived) m c (any-history-reached sheet lines arrived) r
+      go false (Read c) (is-read r) = omega arith
+      go let-pass Syntax syntax = omega arith
+      go let-pass Unknown no-kind = omega arith
 
 -- and the books behind all calls of the running code, in whatever parts and with whatever buffers it hears the bytes
 pub and-those-of-the-calls : (f g : Machines) → Fresh f → (bytes gives : List ℕ) (texts : List (List ℕ)) → HeardThrough f bytes gives texts g

@@ -25,21 +25,24 @@ use Rattle.books.specs.declared.Shown.the-variants as shown
 use Rattle.answers.specs.Contents.{commaEach, contentOf}
 use Rattle.answers.specs.Status.{statusOf}
 use Rattle.answers.proofs.Shown.{field-shows}
+use Rattle.deeds.specs.Deeds.{refusedWith}
 use Rattle.deeds.specs.declared.Deed.{Deed}
 use Rattle.line.specs.Turns.{was, State, Turn, Session, repeats, onEvent, turn, session}
-use Rattle.store.specs.Store.{Store}
-use Rattle.store.specs.Commands.{deedOn, leftBy, leftOn}
+use Rattle.guard.specs.Guard.{calmed, judgedOf, judgedBy}
+use Rattle.store.specs.Store.{Store, withGuard}
+use Rattle.store.specs.Commands.{placeFor, deedOn, leftBy, leftOn}
 use Rattle.rules.specs.Views.{viewOf}
 use Rattle.machine.specs.Device.{enough}
 use Rattle.carrying.specs.Carrying.{searchIn, deedFor, answerTo, carry}
 use Rattle.history.specs.Agrees.{Agrees}
 use Rattle.history.specs.Entries.{Entry, entryOf}
+use Rattle.history.specs.Digits.{Given}
 use Rattle.history.specs.Reached.{Reached}
 use Rattle.history.proofs.Digits.{digits-fit}
-use Rattle.history.proofs.Histories.{fresh-agrees, agreement-stays}
+use Rattle.history.proofs.Histories.{fresh-agrees, agreement-stays, barred-agrees, guarded-agrees}
 use Rattle.history.proofs.Laws.{seventy-shows-the-drawer}
 use Rattle.history.proofs.Reaching.{fresh-reached}
-use Rattle.promises.specs.Demand2.{LentByte, alwaysLent, turnBy, turnsOf, deviceAfter, allGiven, allCarried, dataIn, withRead, withTurn, toldBy, freshDevice, entriesOf, storeAfter, booksAfter, cashIn}
+use Rattle.promises.specs.Demand2.{Moment, comes, on-anew, alwaysLent, onTurn, turnBy, turnsOf, deviceAfter, allGiven, allCarried, dataIn, withRead, withTurn, toldBy, freshDevice, entriesOf, storeAfter, booksAfter, cashIn}
 use Rattle.promises.proofs.Demand1.{deed-stays}
 use Rattle.promises.proofs.DeviceRows.{again, short7}
 use Rattle.promises.proofs.Verdicts.{Right, syntax, no-kind, is-read, parsed-right}
@@ -70,10 +73,10 @@ told-as-done b seq code c d =
 -- the three ways of a turn: nothing carried out, a repeat, and a frame read in some way and carried out
 module _ (s : State Store) (next : Place) (m : Message) where
   abbrev deedAs : Parsed → Deed
-  deedAs x = deedFor (s .store .books) (matchOf (s .store .sheet) (searchIn (s .store .books) x)) x
+  deedAs x = deedFor (s .store .books) (matchOf (s .store .sheet) (searchIn (s .store .books) x)) (judgedBy (s .store .guard) x (m .content) .passes) x
 
   abbrev storeAs : Parsed → Store
-  storeAs x = leftBy (s .store) (placeOf (s .store .sheet) (searchIn (s .store .books) x)) (deedAs x)
+  storeAs x = withGuard (leftBy (s .store) (placeOf (s .store .sheet) (searchIn (s .store .books) x)) (deedAs x)) (judgedBy (s .store .guard) x (m .content) .guard)
 
   abbrev answerAs : Parsed → List ℕ
   answerAs x = frame way.ToTill (answerTo (s .store .books) (m .seq) (m .code) (deedAs x))
@@ -90,10 +93,12 @@ module _ (s : State Store) (next : Place) (m : Message) where
   abbrev order : Turn Store
   order = orderAs (parsedOf (m .code) (m .content))
 
--- what holds of every turn that carries out nothing and leaves the books, and of every one that carries out its frame, holds of every turn
+-- what holds of every turn that carries out nothing and leaves all that is remembered, of switching on anew, and of every one that carries out its frame,
+-- holds of every turn
 every-turn : (P : Turn Store → Type 0) (s : State Store)
-    → ((t : Turn Store) → t .carried ≡ [] → t .state .store ≡ s .store → P t) → ((next : Place) (m : Message) → P (order s next m)) → (a : LentByte) → P (turnBy s a)
-every-turn P s quiet carries a = go (enough (a .lent))
+    → ((t : Turn Store) → t .carried ≡ [] → t .state .store ≡ s .store → P t) → P (onTurn s) → ((next : Place) (m : Message) → P (order s next m)) → (a : Moment) → P (turnBy s a)
+every-turn P s quiet on carries on-anew = on
+every-turn P s quiet on carries (comes lent byte) = go (enough lent)
   where
     whole : (next : Place) (m : Message) (repeat : Bool) → P (cond repeat (again s next) (order s next m))
     whole next m true = quiet (again s next) refl refl
@@ -104,8 +109,8 @@ every-turn P s quiet carries a = go (enough (a .lent))
     event next brokenFrame = quiet (onEvent carry s next brokenFrame) refl refl
     event next (heard m) = whole next m (repeats (s .before) m)
 
-    go : (long : Bool) → P (cond long (turn carry s (a .byte)) (short7 s))
-    go true = event (read way.ToDevice (s .place) (a .byte) .place) (read way.ToDevice (s .place) (a .byte) .event)
+    go : (long : Bool) → P (cond long (turn carry s byte) (short7 s))
+    go true = event (read way.ToDevice (s .place) byte .place) (read way.ToDevice (s .place) byte .event)
     go false = quiet (short7 s) refl refl
 
 -- books that can be reached, and entries in agreement with them, stay so
@@ -113,24 +118,34 @@ module _ (es : List Entry) (s : State Store) (r : Reached (s .store .books)) (h 
   abbrev Stays : Turn Store → Type 0
   Stays t = Reached (t .state .store .books) × Agrees (withTurn t (t .carried) es) (t .state .store)
 
-  read-agrees : (next : Place) (m : Message) (x : Parsed) → Right x → Agrees (withRead (orderAs s next m x) x es) (storeAs s next m x)
-  read-agrees next m (Read c) (is-read k) =
+  -- a command that the guard lets pass, and one that it does not
+  by-passing : (next : Place) (m : Message) (c : Command) → Given (viewOf c) → (let-pass : Bool)
+      → let d : Deed = cond let-pass (deedOn (s .store) (viewOf c)) (refusedWith 3 (s .store .books)) in
+      Agrees (record { command = c; number = d .number; shown = dataIn (frame way.ToTill (answerTo (s .store .books) (m .seq) (m .code) d)) } ∷ es) (leftBy (s .store) (placeFor (s .store) (viewOf c)) d)
+  by-passing next m c k true =
       subst (λ e. Agrees (e ∷ es) (leftOn (s .store) (viewOf c))) (sym (told-as-done (s .store .books) (m .seq) (m .code) c (deedOn (s .store) (viewOf c))))
       (agreement-stays es (s .store) c r k h)
+  by-passing next m c k false =
+      subst (λ e. Agrees (e ∷ es) (s .store)) (sym (told-as-done (s .store .books) (m .seq) (m .code) c (refusedWith 3 (s .store .books)))) (barred-agrees es (s .store) c h)
+
+  read-agrees : (next : Place) (m : Message) (x : Parsed) → Right x → Agrees (withRead (orderAs s next m x) x es) (storeAs s next m x)
+  read-agrees next m (Read c) (is-read k) =
+      guarded-agrees (withRead (orderAs s next m (Read c)) (Read c) es) (leftBy (s .store) (placeFor (s .store) (viewOf c)) (deedAs s next m (Read c))) (judgedOf (s .store .guard) c (m .content) .guard)
+      (by-passing next m c k (judgedOf (s .store .guard) c (m .content) .passes))
   read-agrees next m Syntax syntax = h
   read-agrees next m Unknown no-kind = h
 
-  turn-stays : (a : LentByte) → Stays (turnBy s a)
+  turn-stays : (a : Moment) → Stays (turnBy s a)
   turn-stays =
-      every-turn Stays s quiet
+      every-turn Stays s quiet (r, guarded-agrees es (s .store) (calmed (s .store .guard)) h)
       (λ next m.
       let x = parsedOf (m .code) (m .content) in
-      (deed-stays (s .store .books) (matchOf (s .store .sheet) (searchIn (s .store .books) x)) x r, read-agrees next m x (parsed-right (m .code) (m .content))))
+      (deed-stays (s .store .books) (matchOf (s .store .sheet) (searchIn (s .store .books) x)) (judgedBy (s .store .guard) x (m .content) .passes) x r, read-agrees next m x (parsed-right (m .code) (m .content))))
     where
       quiet : (t : Turn Store) → t .carried ≡ [] → t .state .store ≡ s .store → Stays t
       quiet t none same = (subst (λ (z : Store). Reached (z .books)) (sym same) r, subst (λ ms. Agrees (withTurn t ms es) (t .state .store)) (sym none) (subst (Agrees es) (sym same) h))
 
-history-stays : (es : List Entry) (s : State Store) (arrived : List LentByte) → Reached (s .store .books) → Agrees es (s .store)
+history-stays : (es : List Entry) (s : State Store) (arrived : List Moment) → Reached (s .store .books) → Agrees es (s .store)
     → Reached (deviceAfter s arrived .store .books) × Agrees (toldBy es (turnsOf s arrived)) (deviceAfter s arrived .store)
 history-stays es s [] r h = (r, h)
 history-stays es s (a ∷ more) r h =
@@ -138,19 +153,19 @@ history-stays es s (a ∷ more) r h =
     history-stays (withTurn (turnBy s a) (turnBy s a .carried) es) (turnBy s a .state) more (now .0) (now .1)
 
 module _ (sheet : List Line) (room : 512 ≤ length sheet) where
-  pub any-history-reached : (arrived : List LentByte) → Reached (booksAfter sheet arrived)
+  pub any-history-reached : (arrived : List Moment) → Reached (booksAfter sheet arrived)
   any-history-reached arrived = history-stays [] (freshDevice sheet) arrived fresh-reached (fresh-agrees sheet room) .0
 
-  pub any-history-agrees : (arrived : List LentByte) → Agrees (entriesOf sheet arrived) (storeAfter sheet arrived)
+  pub any-history-agrees : (arrived : List Moment) → Agrees (entriesOf sheet arrived) (storeAfter sheet arrived)
   any-history-agrees arrived = history-stays [] (freshDevice sheet) arrived fresh-reached (fresh-agrees sheet room) .1
 
 -- one byte more
-pub device-after-one : (s : State Store) (arrived : List LentByte) (a : LentByte) → deviceAfter s (arrived ++ a ∷ []) ≡ turnBy (deviceAfter s arrived) a .state
+pub device-after-one : (s : State Store) (arrived : List Moment) (a : Moment) → deviceAfter s (arrived ++ a ∷ []) ≡ turnBy (deviceAfter s arrived) a .state
 device-after-one s [] a = refl
 device-after-one s (x ∷ more) a = device-after-one (turnBy s x .state) more a
 
 -- a recording is a history with 217 bytes lent each time
-abbrev pub turnsTogether : State Store → List LentByte → Session Store
+abbrev pub turnsTogether : State Store → List Moment → Session Store
 turnsTogether s arrived = record { gives = allGiven (turnsOf s arrived); carried = allCarried (turnsOf s arrived); state = deviceAfter s arrived }
 
 pub session-turns : (s : State Store) (bytes : List ℕ) → session carry s bytes ≡ turnsTogether s (alwaysLent bytes)
@@ -176,11 +191,11 @@ module _ (s : State Store) (r : Reached (s .store .books)) (m : Message) (servic
       let none = matchOf (s .store .sheet) (searchIn (s .store .books) (Read (Drawer service))) in
       let drawer : d .shown ≡ shown.InDrawer = ap (λ y. deedAs s next n y .shown) e ∙ seventy-shows-the-drawer (s .store .books) none service (sym (ap (λ y. deedAs s next n y .number) e) ∙ z) in
       ap cashIn (data-read (n .seq) (n .code) (contentOf (d .shown) (s .store .books .day) (d .books)) (statusOf (d .number) (d .books)) refl)
-      ∙ cash-shown (d .shown) (s .store .books .day) (d .books) drawer (deed-stays (s .store .books) (matchOf (s .store .sheet) (searchIn (s .store .books) x)) x r)
+      ∙ cash-shown (d .shown) (s .store .books .day) (d .books) drawer (deed-stays (s .store .books) (matchOf (s .store .sheet) (searchIn (s .store .books) x)) (judgedBy (s .store .guard) x (n .content) .passes) x r)
 
-  pub cash-in-answer : (a : LentByte) → Shows (turnBy s a)
+  pub cash-in-answer : (a : Moment) → Shows (turnBy s a)
   cash-in-answer =
-      every-turn Shows s (λ t none same one. let z : _≡_ {A = ℕ} 0 1 = cc in absurd (omega arith))
+      every-turn Shows s (λ t none same one. let z : _≡_ {A = ℕ} 0 1 = cc in absurd (omega arith)) (λ one. let z : _≡_ {A = ℕ} 0 1 = cc in absurd (omega arith))
       (λ next n one z.
       let same : m ≡ n = cc in
       shows next n (parsedOf (n .code) (n .content)) (subst (λ (y : Message). parsedOf (y .code) (y .content) ≡ Read (Drawer service)) same is70) z)

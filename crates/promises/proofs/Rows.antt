@@ -12,7 +12,7 @@ use Rattle.wire.specs.declared.Way.the-variants.{ToDevice}
 use Rattle.till.specs.Turns.{Happening, command, byte, timeout}
 use Rattle.till.specs.declared.Word.{Word}
 use Rattle.till.specs.declared.Word.the-variants.{Idle, Waiting, SendAgain, Answered, Unfinished, TooShort, NotSent}
-use Rattle.promises.specs.Demand1.{freshBench, Comes, atDevice, atTill, Outcome, fromDevice, fromTill}
+use Rattle.promises.specs.Demand1.{freshBench, Comes, atDevice, atTill, Outcome, fromDevice, fromTill, switched}
 use Rattle.promises.specs.Ends.{outcomesOf}
 
 -- bytes to the device, with 217 and 512 lines lent; a command to it; bytes of an answer to the till end, with 210 lent
@@ -35,11 +35,13 @@ abbrev numbers : List Outcome → List ℕ
 numbers [] = []
 numbers (fromDevice r ∷ rs) = cond (eqb (r .number) 0 && eqb (r .count) 0) (numbers rs) (r .number ∷ numbers rs)
 numbers (fromTill r ∷ rs) = numbers rs
+numbers (switched d ∷ rs) = numbers rs
 
 abbrev words : List Outcome → List Word
 words [] = []
 words (fromDevice r ∷ rs) = words rs
 words (fromTill r ∷ rs) = r .word ∷ words rs
+words (switched d ∷ rs) = words rs
 
 -- 74 with data is syntax, and then a repeat; 75 is unknown; 51 needs an open receipt, which 48 opens; `Tab A99999999*2` passes 999999.99
 pub every-row-of-the-device-is-met : numbers (outcomesOf (freshBench (replicate 512 blank)) (

@@ -12,7 +12,7 @@ use Rattle.sheet.specs.declared.Line.{Line}
 use Rattle.line.specs.Turns.{State}
 use Rattle.store.specs.Store.{Store}
 use Rattle.history.specs.History.{linesSold, paymentTried, paidInFull, putIn}
-use Rattle.promises.specs.Demand2.{LentByte, turnsOf, dataIn, freshDevice, allGiven, deviceAfter, entriesOf, cashIn}
+use Rattle.promises.specs.Demand2.{Moment, comes, turnsOf, dataIn, freshDevice, allGiven, deviceAfter, entriesOf, cashIn}
 
 -- a fresh device with a sheet on which nothing stands
 abbrev noLines : List Line
@@ -22,29 +22,29 @@ abbrev fresh : State Store
 fresh = freshDevice noLines
 
 -- a command, with a buffer of this length lent for each of its bytes
-abbrev sent : ℕ → ℕ → ℕ → List ℕ → List LentByte
-sent room seq code content = map (λ b. record { lent = record { buffer = replicate room 0; lines = 512; display = replicate 40 0 }; byte = b }) (frame ToDevice (commandOf seq code content))
+abbrev sent : ℕ → ℕ → ℕ → List ℕ → List Moment
+sent room seq code content = map (comes (record { buffer = replicate room 0; lines = 512; display = replicate 40 0 })) (frame ToDevice (commandOf seq code content))
 
 -- 49 `Tab B12.67`
-abbrev sale : ℕ → List LentByte
+abbrev sale : ℕ → List Moment
 sale room = sent room 0x21 49 (0x09 ∷ 0x42 ∷ 0x31 ∷ 0x32 ∷ 0x2E ∷ 0x36 ∷ 0x37 ∷ [])
 
 -- 48 `1,0000,1`, then the line with 216 bytes lent, and twice with 217
-abbrev sold : List LentByte
+abbrev sold : List Moment
 sold = sent 217 0x20 48 (0x31 ∷ 0x2C ∷ 0x30 ∷ 0x30 ∷ 0x30 ∷ 0x30 ∷ 0x2C ∷ 0x31 ∷ []) ++ sale 216 ++ sale 217 ++ sale 217
 
 -- 53 `Tab N99`, refused with 3, and `Tab P20`
-abbrev refused : List LentByte
+abbrev refused : List Moment
 refused = sold ++ sent 217 0x22 53 (0x09 ∷ 0x4E ∷ 0x39 ∷ 0x39 ∷ [])
 
-abbrev paid : List LentByte
+abbrev paid : List Moment
 paid = refused ++ sent 217 0x23 53 (0x09 ∷ 0x50 ∷ 0x32 ∷ 0x30 ∷ [])
 
 -- 56 and 70
-abbrev closed : List LentByte
+abbrev closed : List Moment
 closed = paid ++ sent 217 0x24 56 []
 
-abbrev asked : List LentByte
+abbrev asked : List Moment
 asked = sent 217 0x25 70 []
 
 -- 17 bytes, none of them taken

@@ -16,11 +16,14 @@ use Rattle.figures.specs.declared.Number.the-variants.{Is, NotOne}
 use Rattle.figures.specs.declared.Signed.{Signed}
 use Rattle.figures.specs.declared.Signed.the-variants.{By, Neither}
 use Rattle.figures.proofs.Bounds.{price-small, quantity-some, quantity-small, percent-small, signed-price-small}
-use Rattle.labels.specs.Texts.{restOf}
+use Rattle.labels.specs.Texts.{isName, restOf}
 use Rattle.labels.specs.declared.Found.{Found}
 use Rattle.labels.specs.declared.Found.the-variants.{At, NotThere}
 use Rattle.kinds.specs.Fields.{comma, endsOr}
-use Rattle.kinds.specs.Plain.{openOf, sumsOf, closingOf}
+use Rattle.kinds.specs.Operators.{isOperator, withThird, operatorsOf}
+use Rattle.kinds.specs.Plain.{sumsOf, closingOf}
+use Rattle.kinds.specs.declared.operators.Third.{Third}
+use Rattle.kinds.specs.declared.operators.Third.the-variants as third
 use Rattle.kinds.specs.declared.Adjust.{Adjust}
 use Rattle.kinds.specs.declared.Adjust.the-variants.{Nothing, PercentMore, PercentLess, AmountMore, AmountLess}
 use Rattle.kinds.specs.declared.Command.{Command}
@@ -62,14 +65,24 @@ signed-right : (x : Signed) (p : Parsed) → (x ≡ By (signedMinus x) (signedSi
 signed-right (By minus n) p k = k refl
 signed-right Neither p k = syntax
 
-opens : (s : List ℕ) → Right (openOf s)
-opens s =
-    either (has comma s && has comma (past comma s)) _ Syntax
-    (field-right (fieldOf 1 (upTo comma s)) _ (λ eo.
-    field-right (fieldOf 6 (upTo comma (past comma s))) _ (λ ep.
-    field-right (fieldOf 5 (past comma (past comma s))) _ (λ et.
-    either (within 1 8 (fieldValue (fieldOf 1 (upTo comma s))) && leb 4 (length (upTo comma (past comma s)))) _ Syntax (plain (λ books m. refl) refl) syntax))))
-    syntax
+-- 48, 101 and 102
+third-right : (t : Third) (op pwd last : List ℕ) → Right (withThird t op pwd last)
+third-right third.Till op pwd last =
+    field-right (fieldOf 1 op) _ (λ eo.
+    field-right (fieldOf 6 pwd) _ (λ ep.
+    field-right (fieldOf 5 last) _ (λ et. either (isOperator (fieldValue (fieldOf 1 op)) pwd) _ Syntax (plain (λ books m. refl) refl) syntax)))
+third-right third.Password op pwd last =
+    field-right (fieldOf 1 op) _ (λ eo.
+    field-right (fieldOf 6 pwd) _ (λ ep.
+    field-right (fieldOf 6 last) _ (λ eq.
+    either (isOperator (fieldValue (fieldOf 1 op)) pwd && isOperator (fieldValue (fieldOf 1 op)) last) _ Syntax (plain (λ books m. refl) refl) syntax)))
+third-right third.Name op pwd last =
+    field-right (fieldOf 1 op) _ (λ eo.
+    field-right (fieldOf 6 pwd) _ (λ ep. either (isOperator (fieldValue (fieldOf 1 op)) pwd && isName last) _ Syntax (plain (λ books m. refl) refl) syntax))
+
+operators-right : (t : Third) (s : List ℕ) → Right (operatorsOf t s)
+operators-right t s =
+    either (has comma s && has comma (past comma s)) _ Syntax (third-right t (upTo comma s) (upTo comma (past comma s)) (past comma (past comma s))) syntax
 
 sums-right : (s : List ℕ) → Right (sumsOf s)
 sums-right [] = plain (λ books m. refl) refl
@@ -195,7 +208,7 @@ sell-right s = rest-right (restOf s) s behindTabOf behind-tab-right
 
 form-right : (code : ℕ) (s : List ℕ) → Right (formOf code s)
 form-right code s =
-    search (either, plain, syntax, no-kind, opens, sell-right, pay-right, sums-right, closing-right, drawer-right) depth 22
+    search (either, plain, syntax, no-kind, operators-right, sell-right, pay-right, sums-right, closing-right, drawer-right) depth 24
 
 -- 10h makes a known command 1, and an unknown one stays
 marked-right : (p : Parsed) → Right (notMarked p)

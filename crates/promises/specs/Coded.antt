@@ -1,4 +1,4 @@
--- The code, call by call: any list of calls of the device's `hear` and of the till end's `command`, `byte` and `timeout`, with any bytes and any lent buffers,
+-- The code, call by call: any list of calls of the device's `hear` and `switch_on` and of the till end's `command`, `byte` and `timeout`, with any bytes and any lent buffers,
 -- on the fields and arrays that each call hands to the next. What the functions promise of a call is what the table says of the events in it.
 use Prim.Native.Nat.{ℕ, _+_, _≤_}
 use mathlib.Core.Path.{_≡_}
@@ -16,9 +16,9 @@ use Rattle.till.specs.Words.{numberOf, countOf}
 use Rattle.till.specs.declared.Till.{Till}
 use Rattle.till.specs.declared.Word.{Word}
 use Rattle.till.specs.declared.Word.the-variants.{Idle, Waiting, SendAgain, Answered, Unfinished, TooShort, NotSent}
-use Rattle.promises.specs.AtDevice.{FromDevice, tells, reads}
+use Rattle.promises.specs.AtDevice.{FromDevice, tells, reads, anew}
 use Rattle.promises.specs.AtTill.{FromTill}
-use Rattle.promises.specs.Demand1.{Bench, atDevice, atTill, fromDevice, fromTill, benchAfter, ByTheTable}
+use Rattle.promises.specs.Demand1.{Bench, atDevice, atTill, fromDevice, fromTill, switched, benchAfter, ByTheTable}
 
 -- what is handed from call to call: the device's fields, two arrays and sheet, the till end's fields and two arrays
 pub record Machines : Type 0 where
@@ -44,6 +44,7 @@ benchOf f = record { device = device.stateOf (f .device); till = fields.stateOf 
 pub data CodeCall : Type 0 where
   hear : (lent : device.Lent) (bytes : List ℕ) → CodeCall
   happens : (buffer : List ℕ) (h : till.Happening) → CodeCall
+  switch-on : CodeCall
 
 -- what the promises say of a call
 abbrev pub partAfter : Machines → device.Lent → List ℕ → PartHeard
@@ -72,6 +73,12 @@ handedOn f (happens buffer h) =
       sent = sentAfter f buffer h;
       answer = answerAfter f buffer h;
     }
+handedOn f switch-on = record { device = device.machineAnew (f .device); till = f .till; sent = f .sent; answer = f .answer }
+
+-- all of a list of calls
+abbrev pub handedThrough : Machines → List CodeCall → Machines
+handedThrough f [] = f
+handedThrough f (call ∷ calls) = handedThrough (handedOn f call) calls
 
 -- the result of a device's call is a reply: number, count, the bytes given back, what the display is told and the text in its buffer, every byte of what was
 -- lent, and the state that its fields and arrays say
@@ -131,6 +138,8 @@ pub data CodeByTheTable : Bench → Machines → List CodeCall → Type 0 where
   till-call : {s : Bench} {f : Machines} {buffer : List ℕ} {h : till.Happening} {calls : List CodeCall} (r : FromTill)
       → ByTheTable s (atTill buffer h) (fromTill r) → TillResult f buffer h r
       → CodeByTheTable (benchAfter s (fromTill r)) (handedOn f (happens buffer h)) calls → CodeByTheTable s f (happens buffer h ∷ calls)
+  switch-call : {s : Bench} {f : Machines} {calls : List CodeCall} → device.stateOf (device.machineAnew (f .device)) ≡ anew (s .device)
+      → CodeByTheTable (benchAfter s (switched (anew (s .device)))) (handedOn f switch-on) calls → CodeByTheTable s f (switch-on ∷ calls)
 
 -- calls of `device::hear`, with anything lent each time, until every byte of the line is taken: each hears a part of what is not taken yet, as `printer`
 -- does with all that it reads. What they give back, one after the other, the texts that they show, and the fields and arrays behind them

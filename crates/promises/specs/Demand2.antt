@@ -1,5 +1,5 @@
 -- Demand 2: "Cash equals all that was put in less all that was taken out, over the whole history." What the statements speak of: any bytes that
--- arrive at a fresh device, each with some buffer lent, and what its turns gave back.
+-- arrive at a fresh device, each with some buffer lent, however often it is switched on anew, and what its turns gave back.
 use Prim.Native.Nat.{ℕ, _-_}
 use mathlib.Core.List.{List, [], _∷_, _++_, map}
 use lib.ListN.{length, take, drop, replicate}
@@ -14,25 +14,31 @@ use Rattle.sheet.specs.declared.Line.{Line}
 use Rattle.line.specs.Turns.{State, Turn, switchedOn}
 use Rattle.store.specs.Store.{Store, freshStore}
 use Rattle.machine.specs.Device.{Lent, lentTurn}
+use Rattle.promises.specs.AtDevice.{anew}
 
--- PROTOCOL 2.4: a byte that arrives, and what is lent for it
-pub record LentByte : Type 0 where
-  pub lent : Lent
-  pub byte : ℕ
+-- PROTOCOL 2.4: what a device meets: a byte that arrives, and what is lent for it; or it is switched on anew (8.9)
+pub data Moment : Type 0 where
+  comes : (lent : Lent) (byte : ℕ) → Moment
+  on-anew : Moment
 
 -- PROTOCOL 1.1: a recording, with 217 bytes, 512 lines and 40 bytes for the display lent each time
-abbrev pub alwaysLent : List ℕ → List LentByte
-alwaysLent = map (λ b. record { lent = record { buffer = replicate 217 0; lines = 512; display = replicate 40 0 }; byte = b })
+abbrev pub alwaysLent : List ℕ → List Moment
+alwaysLent = map (comes (record { buffer = replicate 217 0; lines = 512; display = replicate 40 0 }))
 
-abbrev pub turnBy : State Store → LentByte → Turn Store
-turnBy s a = lentTurn (a .lent) s (a .byte)
+-- PROTOCOL 8.9: nothing is given back on switching on, and nothing carried out
+abbrev pub onTurn : State Store → Turn Store
+onTurn s = record { number = 0; gives = []; carried = []; state = anew s }
 
--- the turns of a device, byte for byte, and the device behind them
-abbrev pub turnsOf : State Store → List LentByte → List (Turn Store)
+abbrev pub turnBy : State Store → Moment → Turn Store
+turnBy s (comes lent byte) = lentTurn lent s byte
+turnBy s on-anew = onTurn s
+
+-- the turns of a device, one after the other, and the device behind them
+abbrev pub turnsOf : State Store → List Moment → List (Turn Store)
 turnsOf s [] = []
 turnsOf s (a ∷ more) = turnBy s a ∷ turnsOf (turnBy s a .state) more
 
-abbrev pub deviceAfter : State Store → List LentByte → State Store
+abbrev pub deviceAfter : State Store → List Moment → State Store
 deviceAfter s [] = s
 deviceAfter s (a ∷ more) = deviceAfter (turnBy s a .state) more
 
@@ -70,13 +76,13 @@ toldBy es (t ∷ ts) = toldBy (withTurn t (t .carried) es) ts
 abbrev pub freshDevice : List Line → State Store
 freshDevice sheet = switchedOn (freshStore sheet)
 
-abbrev pub entriesOf : List Line → List LentByte → List Entry
+abbrev pub entriesOf : List Line → List Moment → List Entry
 entriesOf sheet arrived = toldBy [] (turnsOf (freshDevice sheet) arrived)
 
-abbrev pub storeAfter : List Line → List LentByte → Store
+abbrev pub storeAfter : List Line → List Moment → Store
 storeAfter sheet arrived = deviceAfter (freshDevice sheet) arrived .store
 
-abbrev pub booksAfter : List Line → List LentByte → Books
+abbrev pub booksAfter : List Line → List Moment → Books
 booksAfter sheet arrived = storeAfter sheet arrived .books
 
 -- PROTOCOL 5.14: cash in an answer to 70, the 12 digits behind `P,`, read back as a number

@@ -11,9 +11,9 @@ use Rattle.till.specs.Turns as till
 use Rattle.till.specs.Words.{numberOf, countOf}
 use Rattle.till.specs.declared.Word.the-variants.{Unfinished}
 use Rattle.carrying.specs.Carrying.{textsOf}
-use Rattle.promises.specs.AtDevice.{FromDevice, shows}
+use Rattle.promises.specs.AtDevice.{FromDevice, shows, anew}
 use Rattle.promises.specs.AtTill.{FromTill, replies, fails, noneWaits}
-use Rattle.promises.specs.Demand1.{Bench, Comes, atDevice, atTill, Outcome, fromDevice, fromTill, benchAfter}
+use Rattle.promises.specs.Demand1.{Bench, Comes, atDevice, atTill, switching, Outcome, fromDevice, fromTill, switched, benchAfter}
 
 abbrev pub ofDevice : Lent → line.Turn Store → FromDevice
 ofDevice lent t = shows (t .number) (t .gives) (textsOf (t .carried)) lent (t .state)
@@ -24,6 +24,7 @@ ofTill buffer t = replies (numberOf (t .word)) (t .word) (countOf (t .word)) (t 
 abbrev pub outcomeOf : Bench → Comes → Outcome
 outcomeOf s (atDevice lent byte) = fromDevice (ofDevice lent (lentTurn lent (s .device) byte))
 outcomeOf s (atTill buffer h) = fromTill (ofTill buffer (till.hears (length buffer) (s .till) h))
+outcomeOf s switching = switched (anew (s .device))
 
 -- the replies of a history, and both ends behind it
 abbrev pub outcomesOf : Bench → List Comes → List Outcome
