@@ -18,7 +18,7 @@ use Rattle.basics.proofs.Tests.{both, and-true}
 use Rattle.reader.specs.Reading.{Event, outside, brokenFrame}
 use Rattle.display.specs.Display.{shownBy}
 use Rattle.sheet.specs.declared.Line.{Line}
-use Rattle.store.specs.Store.{Store, freshStore}
+use Rattle.store.specs.Store.{Store, freshStore, storeAnew}
 use Rattle.line.specs.Turns.{State, Carried, Before, switchedOn, session}
 use Rattle.tries.specs.Tries.{Arrival, cut, mayArrive, arriving, Begun, clear, begun, brings}
 use Rattle.delivery.specs.Delivery.{isWhole, Sent, all, any, tried, differsFrom, delivery, commands, triesArriving, allArriving, givenBack, heardIn, carryAll, TryBrings, AllBring, EndedByTheNext}
@@ -34,9 +34,10 @@ use Rattle.carrying.specs.Carrying.{carry, textsOf}
 use Rattle.machine.specs.Device.{storeOf}
 use Rattle.tape.specs.Noting.{listing}
 use Rattle.recorder.specs.Recording.{recording, toldIn}
-use Rattle.promises.specs.Coded.{Machines, Fresh, HeardThrough}
+use Rattle.promises.specs.Coded.{Machines, Fresh, CodeCall, switch-on, handedOn, handedThrough, HeardThrough}
 use Rattle.promises.specs.Demand3.{eachArrives, allArrive, eachOneWhole, framesArriving, bytesArriving, takenCommands, overTheLine}
-use Rattle.promises.proofs.Through.{the-calls-are-the-recording}
+use Rattle.promises.proofs.Through.{the-calls-are-the-session, the-calls-are-the-recording}
+use Rattle.promises.proofs.Coded.{ok-anew, ok-behind, fresh-ok}
 
 -- the list is carried out, each command once and in order, and books and sheet are those of carrying it out by demand 2's rules (`carry`), whatever the
 -- sheet held that the fresh device is lent
@@ -84,6 +85,20 @@ pub the-calls-carry-out-the-list : (f g : Machines) → Fresh f → (cs : List S
 the-calls-carry-out-the-list f g fresh cs e gives texts h =
     let same = the-calls-are-the-recording f g fresh (allArriving cs) gives texts h in
     let done = carries-out-the-list (f .device .sheet) cs e in
+    (same .1 .0 ∙ done .1, (same .0, same .1 .1 ∙ ap textsOf (done .0)))
+
+-- request 2026-04: "demand 3 holds from one switching on to the next": whatever calls came before, from fresh fields on, and whatever books, sheet and guard
+-- they left, once the device is switched on anew
+pub the-calls-carry-out-the-list-from : (f g : Machines) → Fresh f → (calls : List CodeCall) (cs : List Sent) → delivery cs ≡ true → (gives : List ℕ) (texts : List (List ℕ))
+    → HeardThrough (handedOn (handedThrough f calls) switch-on) (allArriving cs) gives texts g
+    → let store = storeAnew (storeOf (handedThrough f calls .device)) in
+    (storeOf (g .device) ≡ carryAll carry store (commands cs)) × ((gives ≡ session carry (switchedOn store) (allArriving cs) .gives) × (texts ≡ textsOf (commands cs)))
+the-calls-carry-out-the-list-from f g fresh calls cs e gives texts h =
+    let before : Machines = handedThrough f calls in
+    let store = storeAnew (storeOf (before .device)) in
+    let ok = ok-anew (before .device) (ok-behind f (fresh-ok f fresh) calls .device) in
+    let same = the-calls-are-the-session (handedOn before switch-on) g ok store refl (allArriving cs) gives texts h in
+    let done = carries-out-the-list-from store cs e in
     (same .1 .0 ∙ done .1, (same .0, same .1 .1 ∙ ap textsOf (done .0)))
 
 -- PROTOCOL 5.17: and so the display shows the texts of that very list, each once and in order, and nothing else: no try that is damaged, cut short or repeated

@@ -32,7 +32,7 @@ use Rattle.guard.specs.Guard.{calmed, judgedOf, judgedBy}
 use Rattle.store.specs.Store.{Store, withGuard}
 use Rattle.store.specs.Commands.{placeFor, deedOn, leftBy, leftOn}
 use Rattle.rules.specs.Views.{viewOf}
-use Rattle.machine.specs.Device.{enough}
+use Rattle.machine.specs.Device.{Lent, enough, lentTurn}
 use Rattle.carrying.specs.Carrying.{searchIn, deedFor, answerTo, carry}
 use Rattle.history.specs.Agrees.{Agrees}
 use Rattle.history.specs.Entries.{Entry, entryOf}
@@ -90,15 +90,13 @@ module _ (s : State Store) (next : Place) (m : Message) where
         state = record { place = next; before = was (m .seq) (m .code) (answerAs x); store = storeAs x };
       }
 
-  abbrev order : Turn Store
+  abbrev pub order : Turn Store
   order = orderAs (parsedOf (m .code) (m .content))
 
--- what holds of every turn that carries out nothing and leaves all that is remembered, of switching on anew, and of every one that carries out its frame,
--- holds of every turn
-every-turn : (P : Turn Store → Type 0) (s : State Store)
-    → ((t : Turn Store) → t .carried ≡ [] → t .state .store ≡ s .store → P t) → P (onTurn s) → ((next : Place) (m : Message) → P (order s next m)) → (a : Moment) → P (turnBy s a)
-every-turn P s quiet on carries on-anew = on
-every-turn P s quiet on carries (comes lent byte) = go (enough lent)
+-- what holds of every turn that carries out nothing and leaves all that is remembered, and of every one that carries out its frame, holds of every byte's
+pub byte-turn : (P : Turn Store → Type 0) (s : State Store)
+    → ((t : Turn Store) → t .carried ≡ [] → t .state .store ≡ s .store → P t) → ((next : Place) (m : Message) → P (order s next m)) → (lent : Lent) (byte : ℕ) → P (lentTurn lent s byte)
+byte-turn P s quiet carries lent byte = go (enough lent)
   where
     whole : (next : Place) (m : Message) (repeat : Bool) → P (cond repeat (again s next) (order s next m))
     whole next m true = quiet (again s next) refl refl
@@ -112,6 +110,12 @@ every-turn P s quiet on carries (comes lent byte) = go (enough lent)
     go : (long : Bool) → P (cond long (turn carry s byte) (short7 s))
     go true = event (read way.ToDevice (s .place) byte .place) (read way.ToDevice (s .place) byte .event)
     go false = quiet (short7 s) refl refl
+
+-- and with switching on anew of every moment's
+pub every-turn : (P : Turn Store → Type 0) (s : State Store)
+    → ((t : Turn Store) → t .carried ≡ [] → t .state .store ≡ s .store → P t) → P (onTurn s) → ((next : Place) (m : Message) → P (order s next m)) → (a : Moment) → P (turnBy s a)
+every-turn P s quiet on carries (comes lent byte) = byte-turn P s quiet carries lent byte
+every-turn P s quiet on carries on-anew = on
 
 -- books that can be reached, and entries in agreement with them, stay so
 module _ (es : List Entry) (s : State Store) (r : Reached (s .store .books)) (h : Agrees es (s .store)) where

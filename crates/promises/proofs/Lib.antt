@@ -12,5 +12,6 @@ pub mod Coded
 pub mod Through
 pub mod Joining
 pub mod Demand2
+pub mod Guarding
 pub mod Telling
 pub mod Demand3

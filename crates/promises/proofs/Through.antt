@@ -101,15 +101,23 @@ through {f} {g} ok (one-call {gives = gives} {texts = texts} lent part rest more
           ∙ ap (behind (take (p .after .count) (p .after .lent .buffer)) (one .carried)) (later .is-session);
     }
 
--- the theorem: whatever buffers are lent, and however the bytes come in parts, all that fresh fields give back, the books behind it and the texts that are
--- shown are the recording's
+-- the theorem: whatever buffers are lent, and however the bytes come in parts, all that the fields of a device that is switched on give back, what they
+-- remember behind it and the texts that are shown are those of the session
+pub the-calls-are-the-session : (f g : Machines) → DeviceOk (f .device) → (store : Store) → stateIn f ≡ switchedOn store
+    → (bytes gives : List ℕ) (texts : List (List ℕ)) → HeardThrough f bytes gives texts g
+    → let s : Session Store = session carry (switchedOn store) bytes in
+    (gives ≡ s .gives) × ((storeOf (g .device) ≡ s .state .store) × (texts ≡ textsOf (s .carried)))
+the-calls-are-the-session f g ok store on bytes gives texts h =
+    let t = through ok h in
+    let same : session carry (switchedOn store) bytes ≡ record { gives = gives; carried = t .carried; state = stateIn g } = sym (ap (λ s. session carry s bytes) on) ∙ t .is-session in (
+      sym (ap (λ (s : Session Store). s .gives) same),
+      (sym (ap (λ (s : Session Store). s .state .store) same), t .texts-are ∙ sym (ap (λ (s : Session Store). textsOf (s .carried)) same)),
+    )
+
+-- and so of fresh fields: a recording
 pub the-calls-are-the-recording : (f g : Machines) → Fresh f → (bytes gives : List ℕ) (texts : List (List ℕ)) → HeardThrough f bytes gives texts g
     → (gives ≡ recording (f .device .sheet) bytes .gives) × ((storeOf (g .device) ≡ recording (f .device .sheet) bytes .state .store)
     × (texts ≡ textsOf (recording (f .device .sheet) bytes .carried)))
 the-calls-are-the-recording f g fresh bytes gives texts h =
-    let t = through (fresh-device f fresh) h in
     let says-fresh : stateIn f ≡ switchedOn (freshStore (f .device .sheet)) = rw (fresh .device) in
-    let same : recording (f .device .sheet) bytes ≡ record { gives = gives; carried = t .carried; state = stateIn g } = sym (ap (λ s. session carry s bytes) says-fresh) ∙ t .is-session in (
-      sym (ap (λ (s : Session Store). s .gives) same),
-      (sym (ap (λ (s : Session Store). s .state .store) same), t .texts-are ∙ sym (ap (λ (s : Session Store). textsOf (s .carried)) same)),
-    )
+    the-calls-are-the-session f g (fresh-device f fresh) (freshStore (f .device .sheet)) says-fresh bytes gives texts h
