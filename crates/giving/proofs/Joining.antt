@@ -30,7 +30,7 @@ use Rattle.carrying.proofs.Working.{worked-long}
 use Rattle.machine.specs.Device.{Lent, enough, Machine, notTaken}
 use Rattle.machine.specs.Answering.{answering}
 use Rattle.machine.specs.Hearing.{PartHeard, partOf, hearing, afterPart}
-use Rattle.machine.specs.Beginning.{longEnough, begunWith, notBegun, FirstHalf}
+use Rattle.machine.specs.Beginning.{begunWith, notBegun, FirstHalf}
 use Rattle.giving.specs.Ending.{SecondHalf, endedWith, carriedBehind, endingAs, ending}
 use Rattle.giving.specs.Together.{putTogether, searchedAt, goingOn, together}
 use Rattle.machine.specs.declared.Begun.{Begun}
@@ -38,7 +38,7 @@ use Rattle.machine.specs.declared.Device.{Device}
 use Rattle.machine.proofs.Room.{long}
 use Rattle.machine.proofs.Working.{front-stands}
 use Rattle.guard.specs.Guard.{judgedBy}
-use Rattle.machine.proofs.Parts.{at, halves, two-halves, part-long}
+use Rattle.machine.proofs.Parts.{at, two-halves}
 
 module _ (d : Device) (last buffer display : List ℕ) (sheet : List Line) where
   abbrev lent : Lent

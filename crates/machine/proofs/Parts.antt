@@ -18,7 +18,7 @@ use Rattle.line.specs.Turns.{Before, was, State, Turn, turn, onEvent, Session, 
 use Rattle.line.specs.Calls.{beforeOf, isRepeat, isQuiet, callOf, calledOf}
 use Rattle.line.specs.Listening.{frameAfter, listenedTo, frameBehind}
 use Rattle.line.specs.declared.Call.{Call}
-use Rattle.line.specs.declared.Call.the-variants.{Quiet, Nak, Again, Order}
+use Rattle.line.specs.declared.Call.the-variants.{Quiet, Again, Order}
 use Rattle.line.specs.declared.Port.{Port}
 use Rattle.line.specs.declared.Listened.{Listened}
 use Rattle.sheet.specs.declared.Line.{Line}
@@ -32,7 +32,7 @@ use Rattle.machine.specs.Answering.{answering}
 use Rattle.machine.specs.Hearing.{PartHeard, oneMore, hearing, afterPart, carriedBy}
 use Rattle.machine.specs.Beginning.{textsBy}
 use Rattle.machine.proofs.Working.{front-stands, again-few}
-use Rattle.machine.proofs.Turning.{Standing-in, heard-whole, same-repeat, byte-is, byte-quiet, quiet-is, againTurn, orderTurn, callAt, heardUpTo}
+use Rattle.machine.proofs.Turning.{Standing-in, heard-whole, same-repeat, byte-is, byte-quiet, quiet-is, againTurn, orderTurn, callAt}
 
 -- what is listened to, then what it asks for
 module _ (b : Books) (g : Guard) (last : List ℕ) (sheet : List Line) (lent : Lent) where

@@ -2,7 +2,7 @@
 use mathlib.Core.Path.{_≡_, refl, sym, ap, _∙_, subst}
 use mathlib.Core.Bool.{Bool, true, false, cond, false≢true}
 use mathlib.Core.List.{List, [], _∷_, _++_}
-use Prim.Native.Nat.{ℕ, zero, suc, _+_, _-_}
+use Prim.Native.Nat.{ℕ, zero, suc, _+_}
 use native.Mathlib.Omega.{arith}
 use lib.Dec.{eqb}
 use lib.ListN.{length, getD, take, drop}
@@ -13,12 +13,11 @@ use Rattle.reader.proofs.History.{no-start}
 use Rattle.reader.specs.Reading.{Place, outside, inside, Event, nothing, brokenFrame, heard, Read, Standing, broken, beginning, whole, standing, goesOn, grown, message, startsAnew, read, readOther}
 use Rattle.reader.specs.Fields.{placeOf, readerOf, keptIn}
 use Rattle.reader.specs.declared.Reader.{Reader}
-use Rattle.line.specs.Turns.{was, Carried, State, Turn, turn, onEvent, repeats, lastAnswer}
+use Rattle.line.specs.Turns.{was, Carried, Turn, turn, onEvent, repeats, lastAnswer}
 use Rattle.line.specs.Calls.{beforeOf, isRepeat, isQuiet, callOf, calledOf}
 use Rattle.line.specs.Listening.{frameAfter}
 use Rattle.line.specs.declared.Call.{Call}
 use Rattle.line.specs.declared.Call.the-variants.{Quiet, Nak, Again, Order}
-use Rattle.line.specs.declared.Port.{Port}
 use Rattle.line.specs.declared.Previous.{Previous}
 use Rattle.line.specs.declared.Previous.the-variants.{Nothing, Frame}
 use Rattle.store.specs.Store.{Store}

@@ -4,7 +4,7 @@ use mathlib.Core.List.{List, [], _∷_, _++_}
 use Prim.Native.Nat.{ℕ, _+_}
 use native.Mathlib.Omega.{arith}
 use lib.ListN.{length, length-append}
-use Rattle.options.specs.Options.{noneAsked, askedWith, askedOf, askedFrom, askedFor}
+use Rattle.options.specs.Options.{noneAsked, askedWith, askedOf, askedFrom}
 use Rattle.options.specs.declared.Argument.{Argument}
 use Rattle.options.specs.declared.Asked.{Asked}
 use Rattle.opening.specs.Opening.{Arguments}

@@ -4,7 +4,6 @@ use mathlib.Core.Bool.{Bool, true, false, cond, not, _&&_, false≢true}
 use mathlib.Core.List.{List, [], _∷_, _++_}
 use Prim.Native.Nat.{ℕ}
 use Rattle.wire.specs.Frame.{Message}
-use Rattle.reader.specs.Reading.{Place}
 use Rattle.kinds.specs.declared.Command.the-variants.{ChangePassword, ChangeName}
 use Rattle.kinds.specs.declared.Parsed.{Parsed}
 use Rattle.kinds.specs.declared.Parsed.the-variants.{Read}
@@ -14,7 +13,7 @@ use Rattle.sheet.specs.declared.Line.{Line}
 use Rattle.guard.specs.Guard.{isOp, isLocked, isRight, passwordOf, nameOf, calmed, passes, judgedBy}
 use Rattle.guard.specs.declared.Guard.{Guard}
 use Rattle.guard.specs.declared.Verdict.the-variants.{Right, Wrong, Locked}
-use Rattle.trials.specs.Changes.{Wide, Short, passesBy, passwordAfter, nameAfter}
+use Rattle.trials.specs.Changes.{Wide, Short, passesBy}
 use Rattle.trials.specs.Tries.{Came, guardBehind, triesFrom, ThreeWrong}
 use Rattle.trials.proofs.Changing.{fresh-wide, judged-wide, calmed-wide, a-password-changes-only-by-101}
 use Rattle.trials.proofs.Locking.{locked-by-three-wrong, locked-only-by-three-wrong}
@@ -29,7 +28,7 @@ use Rattle.machine.specs.Device.{Lent}
 use Rattle.promises.specs.AtDevice.{anew}
 use Rattle.promises.specs.Demand2.{Moment, comes, on-anew, turnBy, turnsOf, deviceAfter, allCarried, freshDevice}
 use Rattle.promises.specs.Guarding.{cameOf, onlyBytes, passwordMet, nameMet}
-use Rattle.promises.proofs.Joining.{order, byte-turn, every-turn}
+use Rattle.promises.proofs.Joining.{byte-turn, every-turn}
 
 -- the guard is moved by the commands carried out, and by nothing else
 behind-both : (g : Guard) (ms ns : List Message) → guardBehind g (cameOf (ms ++ ns)) ≡ guardBehind (guardBehind g (cameOf ms)) (cameOf ns)

@@ -5,7 +5,7 @@ use mathlib.Core.List.{List, [], _∷_}
 use Prim.Native.Nat.{ℕ, _-_, _<_}
 use native.Mathlib.Omega.{arith}
 use lib.Dec.{eqb, leb, ltb}
-use lib.ListN.{length, drop}
+use lib.ListN.{drop}
 use borrow.Author.Tests.{leb-true, le-leb, lt-ltb}
 use Rattle.wire.specs.Bytes.{within}
 use Rattle.basics.proofs.Tests.{both, and-true}

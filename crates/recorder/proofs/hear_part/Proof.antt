@@ -62,7 +62,7 @@ use Rattle.tape.proofs.Run as R
 use Rattle.tape.proofs.Run.Laws as R′
 use Rattle.recorder.proofs.Part as P
 use Rattle.recorder.proofs.Part.Laws as P′
-use Rattle.runs.proofs.Locals.{word, part, lines-part}
+use Rattle.runs.proofs.Locals.{word, lines-part}
 use Rattle.runs.proofs.Runs.{Apart, apart}
 use Rattle.recorder.proofs.Sheets.{Rows, avals, aval, aty, room, lies, stands}
 use Rattle.recorder.proofs.Keeping.{Opened, opened, kept-is, partWith, part-val, part-is, handed}

@@ -1,5 +1,5 @@
-use mathlib.Core.Path.{_≡_, ap, _∙_}
-use Rattle.items.specs.Items.{item, four, noItem}
+use mathlib.Core.Path.{ap, _∙_}
+use Rattle.items.specs.Items.{item, four}
 use Rattle.items.specs.declared.Label.the-variants as label
 use Rattle.items.specs.declared.Value.the-variants.{Number}
 use borrow.Author.Needs.{needs}
