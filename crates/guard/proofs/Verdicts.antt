@@ -9,10 +9,7 @@ use lib.ListN.{length, take, set, length-take}
 use lib.Seq.{sets}
 use borrow.Author.Tests.{ltb-true, ltb-false, leb-false, le-leb, lt-leb}
 use Rattle.basics.proofs.Tests.{and-true, none-of}
-use Rattle.kinds.specs.declared.Command.{Command}
-use Rattle.kinds.specs.declared.Command.the-variants.{OpenText, CloseText, PrintText, Open, Sell, Subtotal, Pay, Close, Cancel, Sums, Closing, Drawer, Status, Rates, ShowText, ChangePassword, ChangeName}
-use Rattle.guard.specs.Guard.{isOp, isLocked, isRight, trialOf, verdictOf, changedBy, withCount, withName, judgedOf}
-use Rattle.kinds.specs.declared.Password.{Password}
+use Rattle.guard.specs.Guard.{isOp, isLocked, isRight, verdictOf, changedBy, withCount, withName, judgedOf}
 use Rattle.guard.specs.declared.Guard.{Guard}
 use Rattle.guard.specs.declared.Judged.{Judged}
 use Rattle.guard.specs.declared.Trial.{Trial}
@@ -53,30 +50,17 @@ isWrong Right = false
 isWrong Wrong = true
 isWrong Locked = false
 
-not-free : (a b : Bool) → isFree (cond a Locked (cond b Right Wrong)) ≡ true → ⊥
-not-free true b e = false≢true e
+not-free : (locked right : Bool) → isFree (cond locked Locked (cond right Right Wrong)) ≡ true → ⊥
+not-free true right e = false≢true e
 not-free false true e = false≢true e
 not-free false false e = false≢true e
 
 -- a command that tries no password changes nothing in the guard
-pub free-changes-nothing : (g : Guard) (c : Command) (content : List ℕ) → verdictOf g (trialOf c) ≡ Free → changedBy g c content ≡ g
-free-changes-nothing g (ChangePassword op old new) content e = absurd (not-free (isLocked g) (isRight g op old) (ap isFree e))
-free-changes-nothing g (ChangeName op password) content e = absurd (not-free (isLocked g) (isRight g op password) (ap isFree e))
-free-changes-nothing g (Open op password till) content e = refl
-free-changes-nothing g OpenText content e = refl
-free-changes-nothing g CloseText content e = refl
-free-changes-nothing g PrintText content e = refl
-free-changes-nothing g (Sell s) content e = refl
-free-changes-nothing g (Subtotal print show) content e = refl
-free-changes-nothing g (Pay p) content e = refl
-free-changes-nothing g Close content e = refl
-free-changes-nothing g Cancel content e = refl
-free-changes-nothing g (Sums taxes) content e = refl
-free-changes-nothing g (Closing clears) content e = refl
-free-changes-nothing g (Drawer s) content e = refl
-free-changes-nothing g Status content e = refl
-free-changes-nothing g Rates content e = refl
-free-changes-nothing g ShowText content e = refl
+pub free-changes-nothing : (g : Guard) (t : Trial) (content : List ℕ) → verdictOf g t ≡ Free → changedBy g t content ≡ g
+free-changes-nothing g trial.Nothing content e = refl
+free-changes-nothing g (trial.Open op p) content e = refl
+free-changes-nothing g (trial.Change op old new) content e = absurd (not-free (isLocked g) (isRight g op old) (ap isFree e))
+free-changes-nothing g (trial.Name op p) content e = absurd (not-free (isLocked g) (isRight g op p) (ap isFree e))
 
 -- a password is wrong only where the device is not locked
 wrong-open : (locked right : Bool) → isWrong (cond locked Locked (cond right Right Wrong)) ≡ true → locked ≡ false
@@ -85,31 +69,22 @@ wrong-open false right e = refl
 
 pub wrong-few : (g : Guard) (t : Trial) → verdictOf g t ≡ Wrong → g .wrong < 3
 wrong-few g trial.Nothing e = absurd (false≢true (ap isWrong e))
-wrong-few g (trial.By op p) e = leb-false 3 (g .wrong) (wrong-open (isLocked g) (isRight g op p) (ap isWrong e))
-
--- the verdict on a trial, a branch of the code each
-module _ (g : Guard) (t : Trial) (op : ℕ) (p : Password) (by : t ≡ trial.By op p) where
-  pub locked-verdict : 3 ≤ g .wrong → Locked ≡ verdictOf g t
-  locked-verdict h = rw (by, le-leb 3 (g .wrong) h)
-
-  pub right-verdict : g .wrong < 3 → isRight g op p ≡ true → Right ≡ verdictOf g t
-  right-verdict h e = rw (by, lt-leb 3 (g .wrong) h, e)
-
-  pub wrong-verdict : g .wrong < 3 → isRight g op p ≡ false → Wrong ≡ verdictOf g t
-  wrong-verdict h e = rw (by, lt-leb 3 (g .wrong) h, e)
+wrong-few g (trial.Open op p) e = leb-false 3 (g .wrong) (wrong-open (isLocked g) (isRight g op p) (ap isWrong e))
+wrong-few g (trial.Change op old new) e = leb-false 3 (g .wrong) (wrong-open (isLocked g) (isRight g op old) (ap isWrong e))
+wrong-few g (trial.Name op p) e = leb-false 3 (g .wrong) (wrong-open (isLocked g) (isRight g op p) (ap isWrong e))
 
 -- what is judged by each verdict
-module _ (g : Guard) (c : Command) (content : List ℕ) where
-  pub judged-free : verdictOf g (trialOf c) ≡ Free → _≡_ {A = Judged} (record { guard = g; passes = true }) (judgedOf g c content)
-  judged-free e = rw (e, free-changes-nothing g c content e)
+module _ (g : Guard) (t : Trial) (content : List ℕ) where
+  pub judged-free : verdictOf g t ≡ Free → _≡_ {A = Judged} (record { guard = g; passes = true }) (judgedOf g t content)
+  judged-free e = rw (e, free-changes-nothing g t content e)
 
-  pub judged-right : verdictOf g (trialOf c) ≡ Right → _≡_ {A = Judged} (record { guard = withCount (changedBy g c content) 0; passes = true }) (judgedOf g c content)
+  pub judged-right : verdictOf g t ≡ Right → _≡_ {A = Judged} (record { guard = withCount (changedBy g t content) 0; passes = true }) (judgedOf g t content)
   judged-right e = rw e
 
-  pub judged-wrong : verdictOf g (trialOf c) ≡ Wrong → _≡_ {A = Judged} (record { guard = withCount g (g .wrong + 1); passes = false }) (judgedOf g c content)
+  pub judged-wrong : verdictOf g t ≡ Wrong → _≡_ {A = Judged} (record { guard = withCount g (g .wrong + 1); passes = false }) (judgedOf g t content)
   judged-wrong e = rw e
 
-  pub judged-locked : verdictOf g (trialOf c) ≡ Locked → _≡_ {A = Judged} (record { guard = g; passes = false }) (judgedOf g c content)
+  pub judged-locked : verdictOf g t ≡ Locked → _≡_ {A = Judged} (record { guard = g; passes = false }) (judgedOf g t content)
   judged-locked e = rw e
 
 -- a name is put at its place, cut at 24 bytes

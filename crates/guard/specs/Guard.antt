@@ -64,11 +64,11 @@ withName g op name =
     (record { digits = g .digits; values = g .values; sizes = set (g .sizes) (op - 1) (length (take 24 name)); names = sets (g .names) (24 * (op - 1)) (take 24 name); wrong = g .wrong })
     g
 
--- PROTOCOL 5.20: 48, 101 and 102 try a password, and no other command does
+-- PROTOCOL 5.20: 48, 101 and 102 try a password, and no other command does: the one table over the seventeen kinds
 abbrev pub trialOf : Command → Trial
-trialOf (Open op password till) = trial.By op password
-trialOf (ChangePassword op old new) = trial.By op old
-trialOf (ChangeName op password) = trial.By op password
+trialOf (Open op password till) = trial.Open op password
+trialOf (ChangePassword op old new) = trial.Change op old new
+trialOf (ChangeName op password) = trial.Name op password
 trialOf OpenText = trial.Nothing
 trialOf CloseText = trial.Nothing
 trialOf PrintText = trial.Nothing
@@ -84,9 +84,19 @@ trialOf Status = trial.Nothing
 trialOf Rates = trial.Nothing
 trialOf ShowText = trial.Nothing
 
+-- what is asked of a password that is tried; `none` where none is
+module _ {A : Type 0} (none : A) where
+  abbrev pub ofTrial : ((op : ℕ) → Password → A) → Trial → A
+  ofTrial f trial.Nothing = none
+  ofTrial f (trial.Open op password) = f op password
+  ofTrial f (trial.Change op old new) = f op old
+  ofTrial f (trial.Name op password) = f op password
+
+abbrev pub tried : Guard → (op : ℕ) → Password → Verdict
+tried g op password = cond (isLocked g) Locked (cond (isRight g op password) Right Wrong)
+
 abbrev pub verdictOf : Guard → Trial → Verdict
-verdictOf g trial.Nothing = Free
-verdictOf g (trial.By op password) = cond (isLocked g) Locked (cond (isRight g op password) Right Wrong)
+verdictOf g t = ofTrial Free (tried g) t
 
 -- PROTOCOL 2.1: a wrong password is 3, and so is any while the device is locked; else the command goes on
 abbrev pub verdictNumber : Verdict → ℕ
@@ -99,24 +109,11 @@ abbrev pub passes : Verdict → Bool
 passes v = eqb (verdictNumber v) 0
 
 -- PROTOCOL 5.18, 5.19: what 101 and 102 change, the password being right; any other command changes neither passwords nor names
-abbrev pub changedBy : Guard → Command → (content : List ℕ) → Guard
-changedBy g (ChangePassword op old new) content = withPassword g op new
-changedBy g (ChangeName op password) content = withName g op (nameIn content)
-changedBy g (Open op password till) content = g
-changedBy g OpenText content = g
-changedBy g CloseText content = g
-changedBy g PrintText content = g
-changedBy g (Sell s) content = g
-changedBy g (Subtotal print show) content = g
-changedBy g (Pay p) content = g
-changedBy g Close content = g
-changedBy g Cancel content = g
-changedBy g (Sums taxes) content = g
-changedBy g (Closing clears) content = g
-changedBy g (Drawer s) content = g
-changedBy g Status content = g
-changedBy g Rates content = g
-changedBy g ShowText content = g
+abbrev pub changedBy : Guard → Trial → (content : List ℕ) → Guard
+changedBy g trial.Nothing content = g
+changedBy g (trial.Open op password) content = g
+changedBy g (trial.Change op old new) content = withPassword g op new
+changedBy g (trial.Name op password) content = withName g op (nameIn content)
 
 -- PROTOCOL 5.20: a wrong one counts up, a right one clears the count; while locked it stands still
 abbrev pub countAfter : Guard → Verdict → ℕ
@@ -125,16 +122,14 @@ countAfter g Right = 0
 countAfter g Wrong = g .wrong + 1
 countAfter g Locked = g .wrong
 
-abbrev pub guardAfter : Guard → Verdict → Command → (content : List ℕ) → Guard
-guardAfter g v c content = withCount (cond (passes v) (changedBy g c content) g) (countAfter g v)
+abbrev pub guardAfter : Guard → Verdict → Trial → (content : List ℕ) → Guard
+guardAfter g v t content = withCount (cond (passes v) (changedBy g t content) g) (countAfter g v)
 
 -- PROTOCOL 5.20: a password counts as tried once the fields are well formed, whatever else refuses the command
-abbrev pub judgedOf : Guard → Command → (content : List ℕ) → Judged
-judgedOf g c content =
-    let v = verdictOf g (trialOf c) in
-    record { guard = guardAfter g v c content; passes = passes v }
+abbrev pub judgedOf : Guard → Trial → (content : List ℕ) → Judged
+judgedOf g t content = record { guard = guardAfter g (verdictOf g t) t content; passes = passes (verdictOf g t) }
 
 abbrev pub judgedBy : Guard → Parsed → (content : List ℕ) → Judged
-judgedBy g (Read c) content = judgedOf g c content
+judgedBy g (Read c) content = judgedOf g (trialOf c) content
 judgedBy g Syntax content = record { guard = g; passes = true }
 judgedBy g Unknown content = record { guard = g; passes = true }

@@ -1,6 +1,6 @@
 // The guard with one thing of it changed (PROTOCOL 5.18 to 5.20).
 use crate::Guard;
-use kinds::Command;
+use crate::Trial;
 use kinds::Password;
 use kinds::operators;
 use labels::MOST_NAME;
@@ -25,35 +25,14 @@ pub fn with_count(guard: Guard, wrong: u64) -> Guard
 }
 
 // What a command does to the guard, its password being right.
-pub fn change(guard: Guard, command: Command, content: &[u8]) -> Guard
-    ensures { λ r. ⌜ r ≡ changedBy guard command (now (content .entry)) ⌝ }
+pub fn change(guard: Guard, trial: Trial, content: &[u8]) -> Guard
+    ensures { λ r. ⌜ r ≡ changedBy guard trial (now (content .entry)) ⌝ }
 {
-    match command {
-        Command::OpenText => guard,
-        Command::CloseText => guard,
-        Command::PrintText => guard,
-        Command::Open {
-            op: _,
-            password: _,
-            till: _,
-        } => guard,
-        Command::Sell(_) => guard,
-        Command::Subtotal { print: _, show: _ } => guard,
-        Command::Pay(_) => guard,
-        Command::Close => guard,
-        Command::Cancel => guard,
-        Command::Sums { taxes: _ } => guard,
-        Command::Closing { clears: _ } => guard,
-        Command::Drawer(_) => guard,
-        Command::Status => guard,
-        Command::Rates => guard,
-        Command::ShowText => guard,
-        Command::ChangePassword { op, old: _, new } => with_password(guard, op, new),
-        Command::ChangeName { op, password: _ } => with_name(
-            guard,
-            op,
-            operators::name_in(content),
-        ),
+    match trial {
+        Trial::Nothing => guard,
+        Trial::Open { op: _, password: _ } => guard,
+        Trial::Change { op, old: _, new } => with_password(guard, op, new),
+        Trial::Name { op, password: _ } => with_name(guard, op, operators::name_in(content)),
     }
 }
 

@@ -5,7 +5,7 @@ use kinds::Command;
 use kinds::Parsed;
 use kinds::Password;
 ghost use mathlib.Core.Path.{_≡_};
-ghost use Rattle.guard.specs.Guard.{freshGuard, calmed, trialOf, isRight, verdictOf, judgedOf, judgedBy};
+ghost use Rattle.guard.specs.Guard.{freshGuard, calmed, trialOf, isRight, tried, verdictOf, judgedOf, judgedBy};
 
 // PROTOCOL 5.3: Op is from 1 to 8.
 pub const OPERATORS: usize = 8;
@@ -26,10 +26,22 @@ pub struct Guard {
     pub wrong: u64,
 }
 
-// Whose password a command gives, and which.
+// The password that a command gives, whose it is, and what for: 48, 101 and 102. The name of a 102 stays in the data.
 pub enum Trial {
     Nothing,
-    By { op: u64, password: Password },
+    Open {
+        op: u64,
+        password: Password,
+    },
+    Change {
+        op: u64,
+        old: Password,
+        new: Password,
+    },
+    Name {
+        op: u64,
+        password: Password,
+    },
 }
 
 // What the guard says to it.
@@ -66,7 +78,7 @@ pub fn calm(guard: Guard) -> Guard
     changes::with_count(guard, 0)
 }
 
-// The password that a command gives: 48, 101 and 102.
+// What a command is to the guard: the one table over the seventeen kinds.
 pub fn trial_of(command: Command) -> Trial
     ensures { λ r. ⌜ r ≡ trialOf command ⌝ }
 {
@@ -78,7 +90,7 @@ pub fn trial_of(command: Command) -> Trial
             op,
             password,
             till: _,
-        } => Trial::By { op, password },
+        } => Trial::Open { op, password },
         Command::Sell(_) => Trial::Nothing,
         Command::Subtotal { print: _, show: _ } => Trial::Nothing,
         Command::Pay(_) => Trial::Nothing,
@@ -90,8 +102,8 @@ pub fn trial_of(command: Command) -> Trial
         Command::Status => Trial::Nothing,
         Command::Rates => Trial::Nothing,
         Command::ShowText => Trial::Nothing,
-        Command::ChangePassword { op, old, new: _ } => Trial::By { op, password: old },
-        Command::ChangeName { op, password } => Trial::By { op, password },
+        Command::ChangePassword { op, old, new } => Trial::Change { op, old, new },
+        Command::ChangeName { op, password } => Trial::Name { op, password },
     }
 }
 
@@ -114,16 +126,22 @@ pub fn verdict_of(guard: Guard, trial: Trial) -> Verdict
 {
     match trial {
         Trial::Nothing => Verdict::Free,
-        Trial::By { op, password } => {
-            if MOST_WRONG <= guard.wrong {
-                return Verdict::Locked;
-            }
-            if is_right(guard, op, password) {
-                return Verdict::Right;
-            }
-            Verdict::Wrong
-        }
+        Trial::Open { op, password } => try_password(guard, op, password),
+        Trial::Change { op, old, new: _ } => try_password(guard, op, old),
+        Trial::Name { op, password } => try_password(guard, op, password),
     }
+}
+
+fn try_password(guard: Guard, op: u64, password: Password) -> Verdict
+    ensures { λ r. ⌜ r ≡ tried guard op password ⌝ }
+{
+    if MOST_WRONG <= guard.wrong {
+        return Verdict::Locked;
+    }
+    if is_right(guard, op, password) {
+        return Verdict::Right;
+    }
+    Verdict::Wrong
 }
 
 // A command as it was read, with its data. A password counts as tried here, whatever else refuses the command; data that no command was read
@@ -132,7 +150,7 @@ pub fn judge(guard: Guard, parsed: Parsed, content: &[u8]) -> Judged
     ensures { λ r. ⌜ r ≡ judgedBy guard parsed (now (content .entry)) ⌝ }
 {
     match parsed {
-        Parsed::Read(command) => judge_command(guard, command, content),
+        Parsed::Read(command) => judge_trial(guard, trial_of(command), content),
         Parsed::Syntax => Judged {
             guard,
             passes: true,
@@ -144,10 +162,9 @@ pub fn judge(guard: Guard, parsed: Parsed, content: &[u8]) -> Judged
     }
 }
 
-fn judge_command(guard: Guard, command: Command, content: &[u8]) -> Judged
-    ensures { λ r. ⌜ r ≡ judgedOf guard command (now (content .entry)) ⌝ }
+fn judge_trial(guard: Guard, trial: Trial, content: &[u8]) -> Judged
+    ensures { λ r. ⌜ r ≡ judgedOf guard trial (now (content .entry)) ⌝ }
 {
-    let trial = trial_of(command);
     let verdict = verdict_of(guard, trial);
     match verdict {
         Verdict::Free => Judged {
@@ -155,7 +172,7 @@ fn judge_command(guard: Guard, command: Command, content: &[u8]) -> Judged
             passes: true,
         },
         Verdict::Right => Judged {
-            guard: changes::with_count(changes::change(guard, command, content), 0),
+            guard: changes::with_count(changes::change(guard, trial, content), 0),
             passes: true,
         },
         Verdict::Wrong => Judged {

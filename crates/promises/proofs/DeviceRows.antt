@@ -16,7 +16,7 @@ use Rattle.kinds.specs.declared.Command.the-variants.{OpenText, CloseText, Prin
 use Rattle.command.specs.Commands.{parsedOf}
 use Rattle.command.proofs.Marks.{shown-or-not}
 use Rattle.sheet.specs.Searches.{placeOf, matchOf}
-use Rattle.guard.specs.Guard.{passes, changedBy, withCount, countAfter, guardAfter, judgedBy}
+use Rattle.guard.specs.Guard.{trialOf, passes, changedBy, withCount, countAfter, guardAfter, judgedBy}
 use Rattle.guard.specs.declared.Guard.{Guard}
 use Rattle.guard.specs.declared.Verdict.{Verdict}
 use Rattle.deeds.specs.Deeds.{refusedWith, doneWith, carriedOut}
@@ -209,7 +209,7 @@ carried-by s Unknown content no-kind = refl
 carried-by s (Read c) content (is-read r) = by-passing s c (r .one (s .books) (matchFor s (viewOf c))) (passes (verdict s c))
 
 -- 101 and 102 have no reason but the guard's: whatever else is refused changes neither passwords nor names
-no-reason-changes : (s : Store) (c : kinds.Command) (content : List ℕ) → ruleFor s c .three || four s c ≡ true → changedBy (s .guard) c content ≡ s .guard
+no-reason-changes : (s : Store) (c : kinds.Command) (content : List ℕ) → ruleFor s c .three || four s c ≡ true → changedBy (s .guard) (trialOf c) content ≡ s .guard
 no-reason-changes s (ChangePassword op old new) content e = absurd (false≢true e)
 no-reason-changes s (ChangeName op password) content e = absurd (false≢true e)
 no-reason-changes s (Open op password till) content e = refl
@@ -229,12 +229,12 @@ no-reason-changes s Rates content e = refl
 no-reason-changes s ShowText content e = refl
 
 guarded-by : (s : Store) (c : kinds.Command) (content : List ℕ) (v : Verdict) (for3 for4 : Bool) → ruleFor s c .three ≡ for3 → four s c ≡ for4
-    → guardAfter (s .guard) v c content
-    ≡ cond (not (passes v) || for3) (withCount (s .guard) (countAfter (s .guard) v)) (cond for4 (withCount (s .guard) (countAfter (s .guard) v)) (guardAfter (s .guard) v c content))
+    → guardAfter (s .guard) v (trialOf c) content
+    ≡ cond (not (passes v) || for3) (withCount (s .guard) (countAfter (s .guard) v)) (cond for4 (withCount (s .guard) (countAfter (s .guard) v)) (guardAfter (s .guard) v (trialOf c) content))
 guarded-by s c content v for3 for4 e3 e4 = go (passes v) for3 for4 e3 e4
   where
     left : Bool → Guard
-    left let-pass = withCount (cond let-pass (changedBy (s .guard) c content) (s .guard)) (countAfter (s .guard) v)
+    left let-pass = withCount (cond let-pass (changedBy (s .guard) (trialOf c) content) (s .guard)) (countAfter (s .guard) v)
 
     stays : Guard
     stays = withCount (s .guard) (countAfter (s .guard) v)

@@ -28,7 +28,7 @@ use Rattle.answers.proofs.Shown.{field-shows}
 use Rattle.deeds.specs.Deeds.{refusedWith}
 use Rattle.deeds.specs.declared.Deed.{Deed}
 use Rattle.line.specs.Turns.{was, State, Turn, Session, repeats, onEvent, turn, session}
-use Rattle.guard.specs.Guard.{calmed, judgedOf, judgedBy}
+use Rattle.guard.specs.Guard.{calmed, trialOf, judgedOf, judgedBy}
 use Rattle.store.specs.Store.{Store, withGuard}
 use Rattle.store.specs.Commands.{placeFor, deedOn, leftBy, leftOn}
 use Rattle.rules.specs.Views.{viewOf}
@@ -134,8 +134,8 @@ module _ (es : List Entry) (s : State Store) (r : Reached (s .store .books)) (h 
 
   read-agrees : (next : Place) (m : Message) (x : Parsed) → Right x → Agrees (withRead (orderAs s next m x) x es) (storeAs s next m x)
   read-agrees next m (Read c) (is-read k) =
-      guarded-agrees (withRead (orderAs s next m (Read c)) (Read c) es) (leftBy (s .store) (placeFor (s .store) (viewOf c)) (deedAs s next m (Read c))) (judgedOf (s .store .guard) c (m .content) .guard)
-      (by-passing next m c k (judgedOf (s .store .guard) c (m .content) .passes))
+      guarded-agrees (withRead (orderAs s next m (Read c)) (Read c) es) (leftBy (s .store) (placeFor (s .store) (viewOf c)) (deedAs s next m (Read c))) (judgedOf (s .store .guard) (trialOf c) (m .content) .guard)
+      (by-passing next m c k (judgedOf (s .store .guard) (trialOf c) (m .content) .passes))
   read-agrees next m Syntax syntax = h
   read-agrees next m Unknown no-kind = h
 

@@ -106,7 +106,7 @@ leavesOf s c content =
     record {
       books = r .after;
       sheet = noted (s .sheet) (placeFor s (viewOf c)) (s .books .receipt .lines) (r .note);
-      guard = guardAfter (s .guard) (verdict s c) c content;
+      guard = guardAfter (s .guard) (verdict s c) (trialOf c) content;
     }
 
 -- PROTOCOL 2.3, 5.20: what 3 and 4 leave: the count of wrong passwords is moved by a command that gives one, and nothing else is

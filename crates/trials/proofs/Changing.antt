@@ -10,14 +10,12 @@ use lib.Seq.{length-sets, getD-set-same, getD-set-other}
 use borrow.Author.Tests.{leb-true, eqb-true, eqb-false}
 use Rattle.basics.proofs.Tests.{both}
 use Rattle.kinds.specs.Operators.{nameIn}
-use Rattle.kinds.specs.declared.Command.{Command}
-use Rattle.kinds.specs.declared.Command.the-variants.{OpenText, CloseText, PrintText, Open, Sell, Subtotal, Pay, Close, Cancel, Sums, Closing, Drawer, Status, Rates, ShowText, ChangePassword, ChangeName}
 use Rattle.kinds.specs.declared.Parsed.{Parsed}
 use Rattle.kinds.specs.declared.Parsed.the-variants.{Read, Syntax, Unknown}
 use Rattle.kinds.specs.declared.Password.{Password}
-use Rattle.guard.proofs.Verdicts.{judged-free}
-use Rattle.guard.specs.Guard.{freshGuard, isOp, passwordOf, isLocked, isRight, withCount, calmed, withPassword, withName, trialOf, verdictOf, passes, changedBy, countAfter, judgedOf, judgedBy}
+use Rattle.guard.specs.Guard.{freshGuard, isOp, passwordOf, isLocked, isRight, withCount, calmed, withPassword, withName, trialOf, tried, verdictOf, passes, changedBy, countAfter, judgedOf, judgedBy}
 use Rattle.guard.specs.declared.Guard.{Guard}
+use Rattle.guard.specs.declared.Trial.{Trial}
 use Rattle.guard.specs.declared.Trial.the-variants as trial
 use Rattle.guard.specs.declared.Verdict.the-variants.{Right, Wrong, Locked}
 use Rattle.trials.specs.Changes.{Wide, passwordBy, passwordAfter}
@@ -60,29 +58,17 @@ name-wide g w op name =
     (record { digits = w .digits; values = w .values; sizes = length-set (g .sizes) (op - 1) (length (take 24 name)) ∙ w .sizes; names = length-sets (g .names) (24 * (op - 1)) (take 24 name) ∙ w .names })
     w
 
-changed-wide : (g : Guard) → Wide g → (c : Command) (content : List ℕ) → Wide (changedBy g c content)
-changed-wide g w (ChangePassword op old new) content = password-wide g w op new
-changed-wide g w (ChangeName op password) content = name-wide g w op (nameIn content)
-changed-wide g w (Open op password till) content = w
-changed-wide g w OpenText content = w
-changed-wide g w CloseText content = w
-changed-wide g w PrintText content = w
-changed-wide g w (Sell s) content = w
-changed-wide g w (Subtotal print show) content = w
-changed-wide g w (Pay p) content = w
-changed-wide g w Close content = w
-changed-wide g w Cancel content = w
-changed-wide g w (Sums taxes) content = w
-changed-wide g w (Closing clears) content = w
-changed-wide g w (Drawer s) content = w
-changed-wide g w Status content = w
-changed-wide g w Rates content = w
-changed-wide g w ShowText content = w
+changed-wide : (g : Guard) → Wide g → (t : Trial) (content : List ℕ) → Wide (changedBy g t content)
+changed-wide g w (trial.Change op old new) content = password-wide g w op new
+changed-wide g w (trial.Name op password) content = name-wide g w op (nameIn content)
+changed-wide g w (trial.Open op password) content = w
+changed-wide g w trial.Nothing content = w
 
 pub judged-wide : (g : Guard) → Wide g → (p : Parsed) (content : List ℕ) → Wide (judgedBy g p content .guard)
 judged-wide g w (Read c) content =
-    let v = verdictOf g (trialOf c) in
-    count-wide (cond (passes v) (changedBy g c content) g) (either-wide (passes v) (changed-wide g w c content) w) (countAfter g v)
+    let t = trialOf c in
+    let v = verdictOf g t in
+    count-wide (cond (passes v) (changedBy g t content) g) (either-wide (passes v) (changed-wide g w t content) w) (countAfter g v)
 judged-wide g w Syntax content = w
 judged-wide g w Unknown content = w
 
@@ -138,47 +124,34 @@ pub same-either : {A : Type 0} (b : Bool) (x : A) → cond b x x ≡ x
 same-either true x = refl
 same-either false x = refl
 
-by-command : (g : Guard) → Wide g → (op : ℕ) → isOp op ≡ true → (c : Command) (content : List ℕ) → passwordOf (judgedOf g c content .guard) op ≡ passwordBy g op c
-by-command g w op is (ChangePassword of old new) content =
+by-trial : (g : Guard) → Wide g → (op : ℕ) → isOp op ≡ true → (t : Trial) (content : List ℕ) → passwordOf (judgedOf g t content .guard) op ≡ passwordBy g op t
+by-trial g w op is (trial.Change of old new) content =
     let locked = isLocked g in
     let right = isRight g of old in
-    let v = verdictOf g (trial.By of old) in
+    let v = tried g of old in
     password-of-either (passes v) g (withPassword g of new) op (countAfter g v)
     ∙ ap (λ b. cond b (passwordOf (withPassword g of new) op) (passwordOf g op)) (passes-as locked right)
     ∙ when-both (not locked && right) (eqb of op) new (passwordOf g op) (passwordOf (withPassword g of new) op) (put-password g w of op is new)
-by-command g w op is (ChangeName of password) content =
-    let v = verdictOf g (trial.By of password) in
+by-trial g w op is (trial.Name of password) content =
+    let v = tried g of password in
     password-of-either (passes v) g (withName g of (nameIn content)) op (countAfter g v)
     ∙ ap (λ q. cond (passes v) q (passwordOf g op)) (name-keeps g of op (nameIn content))
     ∙ same-either (passes v) (passwordOf g op)
-by-command g w op is (Open of password till) content =
-    let v = verdictOf g (trial.By of password) in
+by-trial g w op is trial.Nothing content = refl
+by-trial g w op is (trial.Open of password) content =
+    let v = tried g of password in
     password-of-either (passes v) g g op (countAfter g v) ∙ same-either (passes v) (passwordOf g op)
-by-command g w op is OpenText content = refl
-by-command g w op is CloseText content = refl
-by-command g w op is PrintText content = refl
-by-command g w op is (Sell s) content = refl
-by-command g w op is (Subtotal print show) content = refl
-by-command g w op is (Pay p) content = refl
-by-command g w op is Close content = refl
-by-command g w op is Cancel content = refl
-by-command g w op is (Sums taxes) content = refl
-by-command g w op is (Closing clears) content = refl
-by-command g w op is (Drawer s) content = refl
-by-command g w op is Status content = refl
-by-command g w op is Rates content = refl
-by-command g w op is ShowText content = refl
 
 -- PROTOCOL 5.18: a password is what it was, but behind a 101 of its operator with the old one
 pub a-password-changes-only-by-101 : (g : Guard) → Wide g → (op : ℕ) → isOp op ≡ true → (p : Parsed) (content : List ℕ) → passwordOf (judgedBy g p content .guard) op ≡ passwordAfter g op p
-a-password-changes-only-by-101 g w op is (Read c) content = by-command g w op is c content
+a-password-changes-only-by-101 g w op is (Read c) content = by-trial g w op is (trialOf c) content
 a-password-changes-only-by-101 g w op is Syntax content = refl
 a-password-changes-only-by-101 g w op is Unknown content = refl
 
 -- PROTOCOL 5.20: a password that does not pass leaves no more than the count
-pub only-the-count : (g : Guard) (c : Command) (content : List ℕ) → passes (verdictOf g (trialOf c)) ≡ false → judgedOf g c content .guard ≡ withCount g (countAfter g (verdictOf g (trialOf c)))
-only-the-count g c content e = rw e
+pub only-the-count : (g : Guard) (t : Trial) (content : List ℕ) → passes (verdictOf g t) ≡ false → judgedOf g t content .guard ≡ withCount g (countAfter g (verdictOf g t))
+only-the-count g t content e = rw e
 
 -- and a command that tries none leaves not even that
-pub no-password-no-count : (g : Guard) (c : Command) (content : List ℕ) → trialOf c ≡ trial.Nothing → judgedOf g c content .guard ≡ g
-no-password-no-count g c content e = sym (ap (λ j. j .guard) (judged-free g c content (ap (verdictOf g) e)))
+pub no-password-no-count : (g : Guard) (content : List ℕ) → judgedOf g trial.Nothing content .guard ≡ g
+no-password-no-count g content = refl

@@ -29,10 +29,10 @@ countBehind n [] = n
 countBehind n (t ∷ ts) = countBehind (counted n t) ts
 
 -- the guard counts just so
-by-verdict : (g : Guard) (n : ℕ) (locked r : Bool) → countAfter g (cond locked Locked (cond r Right Wrong)) ≡ cond locked (g .wrong) (counting (g .wrong) (cond r right wrong))
-by-verdict g n true r = refl
-by-verdict g n false true = refl
-by-verdict g n false false = refl
+by-verdict : (g : Guard) (locked r : Bool) → countAfter g (cond locked Locked (cond r Right Wrong)) ≡ cond locked (g .wrong) (counting (g .wrong) (cond r right wrong))
+by-verdict g true r = refl
+by-verdict g false true = refl
+by-verdict g false false = refl
 
 same-either : (b : Bool) (n : ℕ) → n ≡ cond b n n
 same-either true n = refl
@@ -40,7 +40,9 @@ same-either false n = refl
 
 by-trial : (g : Guard) (t : Trial) → countAfter g (verdictOf g t) ≡ counted (g .wrong) (triedBy g t)
 by-trial g trial.Nothing = same-either (isLocked g) (g .wrong)
-by-trial g (trial.By op p) = by-verdict g 0 (isLocked g) (isRight g op p)
+by-trial g (trial.Open op p) = by-verdict g (isLocked g) (isRight g op p)
+by-trial g (trial.Change op old new) = by-verdict g (isLocked g) (isRight g op old)
+by-trial g (trial.Name op p) = by-verdict g (isLocked g) (isRight g op p)
 
 counts : (g : Guard) (p : Parsed) (content : List ℕ) → judgedBy g p content .guard .wrong ≡ counted (g .wrong) (triedIn g p)
 counts g (Read c) content = by-trial g (trialOf c)

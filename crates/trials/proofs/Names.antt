@@ -16,14 +16,14 @@ use Rattle.figures.specs.Numbers.{fieldOf, fieldNumber, fieldValue}
 use Rattle.labels.specs.Texts.{isName}
 use Rattle.kinds.specs.Fields.{endsOr, comma}
 use Rattle.kinds.specs.Operators.{isOperator, passwordAs, nameWith, operatorsOf, nameIn}
-use Rattle.kinds.specs.declared.Command.{Command}
-use Rattle.kinds.specs.declared.Command.the-variants.{OpenText, CloseText, PrintText, Open, Sell, Subtotal, Pay, Close, Cancel, Sums, Closing, Drawer, Status, Rates, ShowText, ChangePassword, ChangeName}
+use Rattle.kinds.specs.declared.Command.the-variants.{ChangeName}
 use Rattle.kinds.specs.declared.Parsed.{Parsed}
 use Rattle.kinds.specs.declared.Parsed.the-variants.{Read, Syntax, Unknown}
 use Rattle.kinds.specs.declared.Password.{Password}
 use Rattle.kinds.specs.declared.operators.Third.the-variants as third
-use Rattle.guard.specs.Guard.{freshGuard, isOp, nameOf, isLocked, isRight, withCount, calmed, withPassword, withName, trialOf, verdictOf, passes, changedBy, countAfter, judgedOf, judgedBy}
+use Rattle.guard.specs.Guard.{freshGuard, isOp, nameOf, isLocked, isRight, withCount, calmed, withPassword, withName, trialOf, tried, verdictOf, passes, changedBy, countAfter, judgedOf, judgedBy}
 use Rattle.guard.specs.declared.Guard.{Guard}
+use Rattle.guard.specs.declared.Trial.{Trial}
 use Rattle.guard.specs.declared.Trial.the-variants as trial
 use Rattle.trials.specs.Changes.{Wide, Short, nameBy, nameAfter}
 use Rattle.trials.proofs.Changing.{op-from, op-to, apart, passes-as, when-both, same-either}
@@ -56,31 +56,19 @@ one-set (x ∷ l) (suc i) v h all (suc j) = one-set l i v h (λ k. all (suc k)) 
 cut : (name : List ℕ) → length (take 24 name) ≤ 24
 cut name = omega (arith, length-take 24 name)
 
-changed-short : (g : Guard) → Short g → (c : Command) (content : List ℕ) → Short (changedBy g c content)
-changed-short g s (ChangePassword op old new) content = either-short (isOp op) (record { sizes = s .sizes }) s
-changed-short g s (ChangeName op password) content =
+changed-short : (g : Guard) → Short g → (t : Trial) (content : List ℕ) → Short (changedBy g t content)
+changed-short g s (trial.Change op old new) content = either-short (isOp op) (record { sizes = s .sizes }) s
+changed-short g s (trial.Name op password) content =
     let name = nameIn content in
     either-short (isOp op) (record { sizes = one-set (g .sizes) (op - 1) (length (take 24 name)) (cut name) (s .sizes) }) s
-changed-short g s (Open op password till) content = s
-changed-short g s OpenText content = s
-changed-short g s CloseText content = s
-changed-short g s PrintText content = s
-changed-short g s (Sell sale) content = s
-changed-short g s (Subtotal print show) content = s
-changed-short g s (Pay p) content = s
-changed-short g s Close content = s
-changed-short g s Cancel content = s
-changed-short g s (Sums taxes) content = s
-changed-short g s (Closing clears) content = s
-changed-short g s (Drawer sum) content = s
-changed-short g s Status content = s
-changed-short g s Rates content = s
-changed-short g s ShowText content = s
+changed-short g s (trial.Open op password) content = s
+changed-short g s trial.Nothing content = s
 
 pub judged-short : (g : Guard) → Short g → (p : Parsed) (content : List ℕ) → Short (judgedBy g p content .guard)
 judged-short g s (Read c) content =
-    let v = verdictOf g (trialOf c) in
-    count-short (cond (passes v) (changedBy g c content) g) (either-short (passes v) (changed-short g s c content) s) (countAfter g v)
+    let t = trialOf c in
+    let v = verdictOf g t in
+    count-short (cond (passes v) (changedBy g t content) g) (either-short (passes v) (changed-short g s t content) s) (countAfter g v)
 judged-short g s Syntax content = s
 judged-short g s Unknown content = s
 
@@ -150,42 +138,29 @@ name-of-either : (b : Bool) (g h : Guard) (op n : ℕ) → nameOf (withCount (co
 name-of-either true g h op n = refl
 name-of-either false g h op n = refl
 
-by-command : (g : Guard) → Wide g → Short g → (op : ℕ) → isOp op ≡ true → (c : Command) (content : List ℕ) → nameOf (judgedOf g c content .guard) op ≡ nameBy g op c content
-by-command g w s op is (ChangeName of password) content =
+by-trial : (g : Guard) → Wide g → Short g → (op : ℕ) → isOp op ≡ true → (t : Trial) (content : List ℕ) → nameOf (judgedOf g t content .guard) op ≡ nameBy g op t content
+by-trial g w s op is (trial.Name of password) content =
     let locked = isLocked g in
     let right = isRight g of password in
-    let v = verdictOf g (trial.By of password) in
+    let v = tried g of password in
     let name = nameIn content in
     let put = withName g of name in
     name-of-either (passes v) g put op (countAfter g v)
     ∙ ap (λ b. cond b (nameOf put op) (nameOf g op)) (passes-as locked right)
     ∙ when-both (not locked && right) (eqb of op) (take 24 name) (nameOf g op) (nameOf put op) (put-name g w s of op is name)
-by-command g w s op is (ChangePassword of old new) content =
-    let v = verdictOf g (trial.By of old) in
+by-trial g w s op is (trial.Change of old new) content =
+    let v = tried g of old in
     name-of-either (passes v) g (withPassword g of new) op (countAfter g v)
     ∙ ap (λ q. cond (passes v) q (nameOf g op)) (password-keeps g of op new)
     ∙ same-either (passes v) (nameOf g op)
-by-command g w s op is (Open of password till) content =
-    let v = verdictOf g (trial.By of password) in
+by-trial g w s op is trial.Nothing content = refl
+by-trial g w s op is (trial.Open of password) content =
+    let v = tried g of password in
     name-of-either (passes v) g g op (countAfter g v) ∙ same-either (passes v) (nameOf g op)
-by-command g w s op is OpenText content = refl
-by-command g w s op is CloseText content = refl
-by-command g w s op is PrintText content = refl
-by-command g w s op is (Sell sale) content = refl
-by-command g w s op is (Subtotal print show) content = refl
-by-command g w s op is (Pay p) content = refl
-by-command g w s op is Close content = refl
-by-command g w s op is Cancel content = refl
-by-command g w s op is (Sums taxes) content = refl
-by-command g w s op is (Closing clears) content = refl
-by-command g w s op is (Drawer sum) content = refl
-by-command g w s op is Status content = refl
-by-command g w s op is Rates content = refl
-by-command g w s op is ShowText content = refl
 
 -- PROTOCOL 5.19: a name is what it was, but behind a 102 of its operator with the password
 pub a-name-changes-only-by-102 : (g : Guard) → Wide g → Short g → (op : ℕ) → isOp op ≡ true → (p : Parsed) (content : List ℕ) → nameOf (judgedBy g p content .guard) op ≡ nameAfter g op p content
-a-name-changes-only-by-102 g w s op is (Read c) content = by-command g w s op is c content
+a-name-changes-only-by-102 g w s op is (Read c) content = by-trial g w s op is (trialOf c) content
 a-name-changes-only-by-102 g w s op is Syntax content = refl
 a-name-changes-only-by-102 g w s op is Unknown content = refl
 

@@ -6,13 +6,13 @@ use mathlib.Core.List.{List}
 use lib.Dec.{eqb}
 use lib.ListN.{length, getD, take}
 use Rattle.kinds.specs.Operators.{nameIn}
-use Rattle.kinds.specs.declared.Command.{Command}
-use Rattle.kinds.specs.declared.Command.the-variants.{OpenText, CloseText, PrintText, Open, Sell, Subtotal, Pay, Close, Cancel, Sums, Closing, Drawer, Status, Rates, ShowText, ChangePassword, ChangeName}
 use Rattle.kinds.specs.declared.Parsed.{Parsed}
 use Rattle.kinds.specs.declared.Parsed.the-variants.{Read, Syntax, Unknown}
 use Rattle.kinds.specs.declared.Password.{Password}
-use Rattle.guard.specs.Guard.{passwordOf, nameOf, isRight, isLocked}
+use Rattle.guard.specs.Guard.{passwordOf, nameOf, isRight, isLocked, trialOf}
 use Rattle.guard.specs.declared.Guard.{Guard}
+use Rattle.guard.specs.declared.Trial.{Trial}
+use Rattle.guard.specs.declared.Trial.the-variants as trial
 
 -- what the types say: eight passwords, eight names, and 24 bytes for each
 pub record Wide (g : Guard) : Type 0 where
@@ -30,51 +30,25 @@ abbrev pub passesBy : Guard → (op : ℕ) → Password → Bool
 passesBy g op password = not (isLocked g) && isRight g op password
 
 -- PROTOCOL 5.18: only a 101 of this operator, with the old password given, changes a password, and that into the new one
-abbrev pub passwordBy : Guard → (op : ℕ) → Command → Password
-passwordBy g op (ChangePassword of old new) = cond (eqb of op && passesBy g of old) new (passwordOf g op)
-passwordBy g op (ChangeName of password) = passwordOf g op
-passwordBy g op (Open of password till) = passwordOf g op
-passwordBy g op OpenText = passwordOf g op
-passwordBy g op CloseText = passwordOf g op
-passwordBy g op PrintText = passwordOf g op
-passwordBy g op (Sell s) = passwordOf g op
-passwordBy g op (Subtotal print show) = passwordOf g op
-passwordBy g op (Pay p) = passwordOf g op
-passwordBy g op Close = passwordOf g op
-passwordBy g op Cancel = passwordOf g op
-passwordBy g op (Sums taxes) = passwordOf g op
-passwordBy g op (Closing clears) = passwordOf g op
-passwordBy g op (Drawer s) = passwordOf g op
-passwordBy g op Status = passwordOf g op
-passwordBy g op Rates = passwordOf g op
-passwordBy g op ShowText = passwordOf g op
+abbrev pub passwordBy : Guard → (op : ℕ) → Trial → Password
+passwordBy g op (trial.Change of old new) = cond (eqb of op && passesBy g of old) new (passwordOf g op)
+passwordBy g op (trial.Name of password) = passwordOf g op
+passwordBy g op (trial.Open of password) = passwordOf g op
+passwordBy g op trial.Nothing = passwordOf g op
 
 abbrev pub passwordAfter : Guard → (op : ℕ) → Parsed → Password
-passwordAfter g op (Read c) = passwordBy g op c
+passwordAfter g op (Read c) = passwordBy g op (trialOf c)
 passwordAfter g op Syntax = passwordOf g op
 passwordAfter g op Unknown = passwordOf g op
 
 -- PROTOCOL 5.19: only a 102 of this operator, with the password given, changes a name, and that into the one in its data
-abbrev pub nameBy : Guard → (op : ℕ) → Command → (content : List ℕ) → List ℕ
-nameBy g op (ChangeName of password) content = cond (eqb of op && passesBy g of password) (take 24 (nameIn content)) (nameOf g op)
-nameBy g op (ChangePassword of old new) content = nameOf g op
-nameBy g op (Open of password till) content = nameOf g op
-nameBy g op OpenText content = nameOf g op
-nameBy g op CloseText content = nameOf g op
-nameBy g op PrintText content = nameOf g op
-nameBy g op (Sell s) content = nameOf g op
-nameBy g op (Subtotal print show) content = nameOf g op
-nameBy g op (Pay p) content = nameOf g op
-nameBy g op Close content = nameOf g op
-nameBy g op Cancel content = nameOf g op
-nameBy g op (Sums taxes) content = nameOf g op
-nameBy g op (Closing clears) content = nameOf g op
-nameBy g op (Drawer s) content = nameOf g op
-nameBy g op Status content = nameOf g op
-nameBy g op Rates content = nameOf g op
-nameBy g op ShowText content = nameOf g op
+abbrev pub nameBy : Guard → (op : ℕ) → Trial → (content : List ℕ) → List ℕ
+nameBy g op (trial.Name of password) content = cond (eqb of op && passesBy g of password) (take 24 (nameIn content)) (nameOf g op)
+nameBy g op (trial.Change of old new) content = nameOf g op
+nameBy g op (trial.Open of password) content = nameOf g op
+nameBy g op trial.Nothing content = nameOf g op
 
 abbrev pub nameAfter : Guard → (op : ℕ) → Parsed → (content : List ℕ) → List ℕ
-nameAfter g op (Read c) content = nameBy g op c content
+nameAfter g op (Read c) content = nameBy g op (trialOf c) content
 nameAfter g op Syntax content = nameOf g op
 nameAfter g op Unknown content = nameOf g op

@@ -4,10 +4,9 @@ use mathlib.Core.Bool.{cond}
 use mathlib.Core.List.{List, [], _∷_}
 use Rattle.kinds.specs.declared.Parsed.{Parsed}
 use Rattle.kinds.specs.declared.Parsed.the-variants.{Read, Syntax, Unknown}
-use Rattle.guard.specs.Guard.{isRight, trialOf, judgedBy}
+use Rattle.guard.specs.Guard.{isRight, trialOf, ofTrial, judgedBy}
 use Rattle.guard.specs.declared.Guard.{Guard}
 use Rattle.guard.specs.declared.Trial.{Trial}
-use Rattle.guard.specs.declared.Trial.the-variants as trial
 
 -- a command that came: as it was read, with its data
 pub record Came : Type 0 where
@@ -21,8 +20,7 @@ pub data Tried : Type 0 where
   wrong : Tried
 
 abbrev pub triedBy : Guard → Trial → Tried
-triedBy g trial.Nothing = none
-triedBy g (trial.By op password) = cond (isRight g op password) right wrong
+triedBy g t = ofTrial none (λ op password. cond (isRight g op password) right wrong) t
 
 abbrev pub triedIn : Guard → Parsed → Tried
 triedIn g (Read c) = triedBy g (trialOf c)

@@ -5,172 +5,26 @@ use borrow.Author.Needs.{needs}
 use Rattle.guard.proofs.changes.change.Statement.{statement}
 use Rattle.guard.proofs.changes.change.Tie as tie
 
-enum-told : tie.Need-enum-told
-enum-told c = search needs
-
-enum-told-2 : tie.Need-enum-told-2
-enum-told-2 c = search needs
-
-enum-told-3 : tie.Need-enum-told-3
-enum-told-3 c = search needs
-
-enum-told-4 : tie.Need-enum-told-4
-enum-told-4 c = search needs
-
-enum-told-5 : tie.Need-enum-told-5
-enum-told-5 c = search needs
-
-enum-told-6 : tie.Need-enum-told-6
-enum-told-6 c = search needs
-
-enum-told-7 : tie.Need-enum-told-7
-enum-told-7 c = search needs
-
-enum-told-8 : tie.Need-enum-told-8
-enum-told-8 c = search needs
-
-enum-told-9 : tie.Need-enum-told-9
-enum-told-9 c = search needs
-
-enum-told-10 : tie.Need-enum-told-10
-enum-told-10 c = search needs
-
-enum-told-11 : tie.Need-enum-told-11
-enum-told-11 c = search needs
-
-enum-told-12 : tie.Need-enum-told-12
-enum-told-12 c = search needs
-
-enum-told-13 : tie.Need-enum-told-13
-enum-told-13 c = search needs
-
-enum-told-14 : tie.Need-enum-told-14
-enum-told-14 c = search needs
-
-enum-told-15 : tie.Need-enum-told-15
-enum-told-15 c = search needs
-
-enum-known-command : tie.Need-enum-known-command
-enum-known-command c = search needs
-
-with-password-requires : tie.Need-with-password-requires
-with-password-requires c κs = search needs
-
-enum-known-command-2 : tie.Need-enum-known-command-2
-enum-known-command-2 c = search needs
-
-name-in-requires : tie.Need-name-in-requires
-name-in-requires c κs = search needs
-
-with-name-requires : tie.Need-with-name-requires
-with-name-requires c κs = search needs
-
-returns : tie.Need-returns
-returns c =
-    let a = c .before .before .before .args in sym (ap (λ x. changedBy (a .guard) x (now (a .content))) (c .enum-told .given .1))
-
-returns-2 : tie.Need-returns-2
-returns-2 c =
-    let a = c .before .before .before .args in sym (ap (λ x. changedBy (a .guard) x (now (a .content))) (c .enum-told2 .given .1))
-
 returns-3 : tie.Need-returns-3
 returns-3 c =
-    let a = c .before .before .before .args in sym (ap (λ x. changedBy (a .guard) x (now (a .content))) (c .enum-told3 .given .1))
+    let t = c .before .before in let a = t .before .before .before .args in c .with-password .ensures ∙ sym (ap (λ x. changedBy (a .guard) x (now (a .content))) (t .trial .given .1))
 
 returns-4 : tie.Need-returns-4
 returns-4 c =
-    let a = c .before .before .before .args in sym (ap (λ x. changedBy (a .guard) x (now (a .content))) (c .enum-told4 .given .1))
-
-returns-5 : tie.Need-returns-5
-returns-5 c =
-    let a = c .before .before .before .args in sym (ap (λ x. changedBy (a .guard) x (now (a .content))) (c .enum-told5 .given .1))
-
-returns-6 : tie.Need-returns-6
-returns-6 c =
-    let a = c .before .before .before .args in sym (ap (λ x. changedBy (a .guard) x (now (a .content))) (c .enum-told6 .given .1))
-
-returns-7 : tie.Need-returns-7
-returns-7 c =
-    let a = c .before .before .before .args in sym (ap (λ x. changedBy (a .guard) x (now (a .content))) (c .enum-told7 .given .1))
-
-returns-8 : tie.Need-returns-8
-returns-8 c =
-    let a = c .before .before .before .args in sym (ap (λ x. changedBy (a .guard) x (now (a .content))) (c .enum-told8 .given .1))
-
-returns-9 : tie.Need-returns-9
-returns-9 c =
-    let a = c .before .before .before .args in sym (ap (λ x. changedBy (a .guard) x (now (a .content))) (c .enum-told9 .given .1))
-
-returns-10 : tie.Need-returns-10
-returns-10 c =
-    let a = c .before .before .before .args in sym (ap (λ x. changedBy (a .guard) x (now (a .content))) (c .enum-told10 .given .1))
-
-returns-11 : tie.Need-returns-11
-returns-11 c =
-    let a = c .before .before .before .args in sym (ap (λ x. changedBy (a .guard) x (now (a .content))) (c .enum-told11 .given .1))
-
-returns-12 : tie.Need-returns-12
-returns-12 c =
-    let a = c .before .before .before .args in sym (ap (λ x. changedBy (a .guard) x (now (a .content))) (c .enum-told12 .given .1))
-
-returns-13 : tie.Need-returns-13
-returns-13 c =
-    let a = c .before .before .before .args in sym (ap (λ x. changedBy (a .guard) x (now (a .content))) (c .enum-told13 .given .1))
-
-returns-14 : tie.Need-returns-14
-returns-14 c =
-    let a = c .before .before .before .args in sym (ap (λ x. changedBy (a .guard) x (now (a .content))) (c .enum-told14 .given .1))
-
-returns-15 : tie.Need-returns-15
-returns-15 c =
-    let a = c .before .before .before .args in sym (ap (λ x. changedBy (a .guard) x (now (a .content))) (c .enum-told15 .given .1))
-
-returns-16 : tie.Need-returns-16
-returns-16 c =
-    let a = c .before .before .before .before .before .args in c .with-password .ensures ∙ sym (ap (λ x. changedBy (a .guard) x (now (a .content))) (c .before .before .command .given .1))
-
-returns-17 : tie.Need-returns-17
-returns-17 c =
-    let a = c .before .before .before .before .before .before .args in c .with-name .ensures ∙ ap (withName (a .guard) (c .before .before .before .command2 .given .0 .0)) (c .before .name-in .ensures) ∙ sym (ap (λ x. changedBy (a .guard) x (now (a .content))) (c .before .before .before .command2 .given .1))
+    let t = c .before .before .before in let a = t .before .before .before .args in c .with-name .ensures ∙ ap (withName (a .guard) (t .trial2 .given .0 .0)) (c .before .name-in .ensures) ∙ sym (ap (λ x. changedBy (a .guard) x (now (a .content))) (t .trial2 .given .1))
 
 pub change-spec : {M : Type 1} → statement M
 change-spec =
     tie.close
     (tie.spec
-    enum-told
-    enum-told-2
-    enum-told-3
-    enum-told-4
-    enum-told-5
-    enum-told-6
-    enum-told-7
-    enum-told-8
-    enum-told-9
-    enum-told-10
-    enum-told-11
-    enum-told-12
-    enum-told-13
-    enum-told-14
-    enum-told-15
-    enum-known-command
-    with-password-requires
-    enum-known-command-2
-    name-in-requires
-    with-name-requires
-    returns
-    returns-2
+    (λ c. search needs)
+    (λ c. search needs)
+    (λ c. search needs)
+    (λ c κs. search needs)
+    (λ c. search needs)
+    (λ c κs. search needs)
+    (λ c κs. search needs)
+    (λ c. search needs)
+    (λ c. search needs)
     returns-3
-    returns-4
-    returns-5
-    returns-6
-    returns-7
-    returns-8
-    returns-9
-    returns-10
-    returns-11
-    returns-12
-    returns-13
-    returns-14
-    returns-15
-    returns-16
-    returns-17)
+    returns-4)
