@@ -1,15 +1,16 @@
 -- What the guard says, as the code's branches ask it.
 use mathlib.Core.Path.{_≡_, refl, sym, ap, _∙_}
-use mathlib.Core.Bool.{Bool, true, false, cond, _&&_, _||_, false≢true}
+use mathlib.Core.Bool.{Bool, true, false, cond, false≢true}
 use mathlib.Core.List.{List, [], _∷_}
 use Prim.Native.Nat.{ℕ, zero, suc, _+_, _-_, _*_, _≤_, _<_, min}
 use native.Mathlib.Omega.{arith}
-use lib.Dec.{leb, ltb}
+use lib.Dec.{leb}
 use lib.ListN.{length, take, set, length-take}
 use lib.Seq.{sets}
-use borrow.Author.Tests.{ltb-true, ltb-false, leb-false, le-leb, lt-leb}
-use Rattle.basics.proofs.Tests.{and-true, none-of}
-use Rattle.guard.specs.Guard.{isOp, isLocked, isRight, verdictOf, changedBy, withCount, withName, judgedOf}
+use borrow.Author.Tests.{leb-true, leb-false}
+use Rattle.basics.proofs.Tests.{both}
+use Rattle.kinds.specs.Operators.{isOp}
+use Rattle.guard.specs.Guard.{isLocked, isRight, verdictOf, changedBy, withCount, withName, judgedOf}
 use Rattle.guard.specs.declared.Guard.{Guard}
 use Rattle.guard.specs.declared.Judged.{Judged}
 use Rattle.guard.specs.declared.Trial.{Trial}
@@ -17,26 +18,12 @@ use Rattle.guard.specs.declared.Trial.the-variants as trial
 use Rattle.guard.specs.declared.Verdict.{Verdict}
 use Rattle.guard.specs.declared.Verdict.the-variants.{Free, Right, Wrong, Locked}
 
--- an operator, as the code tests it
-module _ (op : ℕ) where
-  pub op-within : ltb op 1 || ltb 8 op ≡ false → (1 ≤ op) × (op ≤ 8)
-  op-within e =
-      let parts = none-of (ltb op 1) (ltb 8 op) e in
-      (ltb-false op 1 (parts .0), ltb-false 8 op (parts .1))
+-- an operator's number
+pub op-from : (op : ℕ) → isOp op ≡ true → 1 ≤ op
+op-from op is = leb-true 1 op (both (leb 1 op) (leb op 8) is .0)
 
-  pub an-op : ltb op 1 || ltb 8 op ≡ false → isOp op ≡ true
-  an-op e = let h = op-within e in and-true (leb 1 op) (leb op 8) (le-leb 1 op (h .0)) (le-leb op 8 (h .1))
-
-  one-side : (a : Bool) → ltb op 1 ≡ a → a || ltb 8 op ≡ true → isOp op ≡ false
-  one-side true f e = ap (λ z. z && leb op 8) (lt-leb 1 op (ltb-true op 1 f))
-  one-side false f e = ap (λ z. leb 1 op && z) (lt-leb op 8 (ltb-true 8 op e)) ∙ never (leb 1 op)
-    where
-      never : (a : Bool) → a && false ≡ false
-      never true = refl
-      never false = refl
-
-  pub no-op : ltb op 1 || ltb 8 op ≡ true → isOp op ≡ false
-  no-op e = one-side (ltb op 1) refl e
+pub op-to : (op : ℕ) → isOp op ≡ true → op ≤ 8
+op-to op is = leb-true op 8 (both (leb 1 op) (leb op 8) is .1)
 
 abbrev isFree : Verdict → Bool
 isFree Free = true

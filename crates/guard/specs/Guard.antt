@@ -5,8 +5,7 @@ use mathlib.Core.List.{List}
 use lib.Dec.{leb, eqb}
 use lib.ListN.{length, getD, set, take, drop, replicate}
 use lib.Seq.{sets}
-use Rattle.wire.specs.Bytes.{within}
-use Rattle.kinds.specs.Operators.{nameIn}
+use Rattle.kinds.specs.Operators.{isOp, nameIn}
 use Rattle.kinds.specs.declared.Command.{Command}
 use Rattle.kinds.specs.declared.Command.the-variants.{OpenText, CloseText, PrintText, Open, Sell, Subtotal, Pay, Close, Cancel, Sums, Closing, Drawer, Status, Rates, ShowText, ChangePassword, ChangeName}
 use Rattle.kinds.specs.declared.Parsed.{Parsed}
@@ -23,10 +22,7 @@ use Rattle.guard.specs.declared.Verdict.the-variants.{Free, Right, Wrong
 abbrev pub freshGuard : Guard
 freshGuard = record { digits = replicate 8 4; values = replicate 8 0; sizes = replicate 8 0; names = replicate 192 0; wrong = 0 }
 
--- PROTOCOL 5.3, 5.19: an operator, from 1 to 8; the password and the name
-abbrev pub isOp : ℕ → Bool
-isOp op = within 1 8 op
-
+-- PROTOCOL 5.3, 5.19: the password and the name of an operator
 abbrev pub passwordOf : Guard → (op : ℕ) → Password
 passwordOf g op = record { digits = getD (g .digits) (op - 1) 0; value = getD (g .values) (op - 1) 0 }
 

@@ -40,7 +40,7 @@ pub fn change(guard: Guard, trial: Trial, content: &[u8]) -> Guard
 fn with_password(guard: Guard, op: u64, new: Password) -> Guard
     ensures { λ r. ⌜ r ≡ withPassword guard op new ⌝ }
 {
-    if (op < 1) | (8 < op) {
+    if !operators::is_op(op) {
         return guard;
     }
     let i = (op - 1) as usize;
@@ -63,7 +63,7 @@ fn with_password(guard: Guard, op: u64, new: Password) -> Guard
 fn with_name(guard: Guard, op: u64, name: &[u8]) -> Guard
     ensures { λ r. ⌜ r ≡ withName guard op (now (name .entry)) ⌝ }
 {
-    if (op < 1) | (8 < op) {
+    if !operators::is_op(op) {
         return guard;
     }
     let i = (op - 1) as usize;

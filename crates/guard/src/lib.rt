@@ -4,6 +4,7 @@ mod changes;
 use kinds::Command;
 use kinds::Parsed;
 use kinds::Password;
+use kinds::operators;
 ghost use mathlib.Core.Path.{_≡_};
 ghost use Rattle.guard.specs.Guard.{freshGuard, calmed, trialOf, isRight, tried, verdictOf, judgedOf, judgedBy};
 
@@ -111,7 +112,7 @@ pub fn trial_of(command: Command) -> Trial
 fn is_right(guard: Guard, op: u64, password: Password) -> bool
     ensures { λ r. ⌜ r ≡ isRight guard op password ⌝ }
 {
-    if (op < 1) | (8 < op) {
+    if !operators::is_op(op) {
         return false;
     }
     let i = (op - 1) as usize;

@@ -1,67 +1,45 @@
 -- Laws of the forms of 48, 101 and 102, a branch of the code each.
 use mathlib.Core.Path.{_≡_, sym, ap, _∙_}
-use mathlib.Core.Bool.{Bool, true, false, cond, _&&_}
+use mathlib.Core.Bool.{true, false, cond, _&&_}
 use mathlib.Core.List.{List, []}
 use Prim.Native.Nat.{ℕ}
 use Rattle.text.specs.Parts.{has, upTo, past}
 use Rattle.figures.specs.Numbers.{fieldOf}
 use Rattle.figures.specs.declared.Number.the-variants.{Is, NotOne}
-use Rattle.labels.specs.Texts.{isName}
 use Rattle.kinds.specs.Fields.{comma}
-use Rattle.kinds.specs.Operators.{isOperator, passwordAs, openWith, changeWith, nameWith, withThird, operatorsOf, nameIn}
-use Rattle.kinds.specs.declared.Command.the-variants.{Open, ChangePassword, ChangeName}
+use Rattle.kinds.specs.Operators.{isOp, secretOf, passwordAs, openWith, changeWith, thirdOf, withThird, operatorsOf, nameIn}
+use Rattle.kinds.specs.declared.Command.the-variants.{Open, ChangePassword}
 use Rattle.kinds.specs.declared.Parsed.the-variants.{Read, Syntax}
+use Rattle.kinds.specs.declared.Password.{Password}
 use Rattle.kinds.specs.declared.operators.Third.{Third}
 
-module _ (op pwd till : List ℕ) where
-  pub no-op : fieldOf 1 op ≡ NotOne → Syntax ≡ openWith op pwd till
+-- Op and Pwd
+module _ (t : Third) (op pwd last : List ℕ) where
+  pub no-op : fieldOf 1 op ≡ NotOne → Syntax ≡ withThird t op pwd last
   no-op e = rw e
 
-  pub no-password : (o : ℕ) → fieldOf 1 op ≡ Is o → fieldOf 6 pwd ≡ NotOne → Syntax ≡ openWith op pwd till
-  no-password o e f = rw (e, f)
+  pub no-secret : (o : ℕ) → fieldOf 1 op ≡ Is o → secretOf pwd ≡ NotOne → Syntax ≡ withThird t op pwd last
+  no-secret o e f = rw (e, f)
 
-  pub no-till : (o p : ℕ) → fieldOf 1 op ≡ Is o → fieldOf 6 pwd ≡ Is p → fieldOf 5 till ≡ NotOne → Syntax ≡ openWith op pwd till
-  no-till o p e f g = rw (e, f, g)
+  module _ (o p : ℕ) (e : fieldOf 1 op ≡ Is o) (f : secretOf pwd ≡ Is p) where
+    pub not-eight : isOp o ≡ false → Syntax ≡ withThird t op pwd last
+    not-eight h = rw (e, f, h)
 
-  module _ (o p t : ℕ) (e : fieldOf 1 op ≡ Is o) (f : fieldOf 6 pwd ≡ Is p) (g : fieldOf 5 till ≡ Is t) where
-    pub opened : isOperator o pwd ≡ true → Read (Open o (passwordAs pwd p) t) ≡ openWith op pwd till
-    opened h = rw (e, f, g, h)
+    pub third-read : (k : Third) → t ≡ k → isOp o ≡ true → thirdOf k o (passwordAs pwd p) last ≡ withThird t op pwd last
+    third-read k et h = rw (et, e, f, h)
 
-    pub not-opened : isOperator o pwd ≡ false → Syntax ≡ openWith op pwd till
-    not-opened h = rw (e, f, g, h)
+-- and what stands behind them
+pub no-till : (op : ℕ) (password : Password) (till : List ℕ) → fieldOf 5 till ≡ NotOne → Syntax ≡ openWith op password till
+no-till op password till e = rw e
 
-module _ (op old new : List ℕ) where
-  pub change-no-op : fieldOf 1 op ≡ NotOne → Syntax ≡ changeWith op old new
-  change-no-op e = rw e
+pub opened : (op : ℕ) (password : Password) (till : List ℕ) (t : ℕ) → fieldOf 5 till ≡ Is t → Read (Open op password t) ≡ openWith op password till
+opened op password till t e = rw e
 
-  pub change-no-old : (o : ℕ) → fieldOf 1 op ≡ Is o → fieldOf 6 old ≡ NotOne → Syntax ≡ changeWith op old new
-  change-no-old o e f = rw (e, f)
+pub no-new : (op : ℕ) (old : Password) (new : List ℕ) → secretOf new ≡ NotOne → Syntax ≡ changeWith op old new
+no-new op old new e = rw e
 
-  pub change-no-new : (o p : ℕ) → fieldOf 1 op ≡ Is o → fieldOf 6 old ≡ Is p → fieldOf 6 new ≡ NotOne → Syntax ≡ changeWith op old new
-  change-no-new o p e f g = rw (e, f, g)
-
-  module _ (o p q : ℕ) (e : fieldOf 1 op ≡ Is o) (f : fieldOf 6 old ≡ Is p) (g : fieldOf 6 new ≡ Is q) where
-    module _ (x y : Bool) (first : x ≡ isOperator o old) (second : y ≡ isOperator o new) where
-      pub changed : x && y ≡ true → Read (ChangePassword o (passwordAs old p) (passwordAs new q)) ≡ changeWith op old new
-      changed h = rw (e, f, g, ← first, ← second, h)
-
-      pub not-changed : x && y ≡ false → Syntax ≡ changeWith op old new
-      not-changed h = rw (e, f, g, ← first, ← second, h)
-
-module _ (op pwd name : List ℕ) where
-  pub name-no-op : fieldOf 1 op ≡ NotOne → Syntax ≡ nameWith op pwd name
-  name-no-op e = rw e
-
-  pub name-no-password : (o : ℕ) → fieldOf 1 op ≡ Is o → fieldOf 6 pwd ≡ NotOne → Syntax ≡ nameWith op pwd name
-  name-no-password o e f = rw (e, f)
-
-  module _ (o p : ℕ) (e : fieldOf 1 op ≡ Is o) (f : fieldOf 6 pwd ≡ Is p) where
-    module _ (x y : Bool) (first : x ≡ isOperator o pwd) (second : y ≡ isName name) where
-      pub named : x && y ≡ true → Read (ChangeName o (passwordAs pwd p)) ≡ nameWith op pwd name
-      named h = rw (e, f, ← first, ← second, h)
-
-      pub not-named : x && y ≡ false → Syntax ≡ nameWith op pwd name
-      not-named h = rw (e, f, ← first, ← second, h)
+pub changed : (op : ℕ) (old : Password) (new : List ℕ) (p : ℕ) → secretOf new ≡ Is p → Read (ChangePassword op old (passwordAs new p)) ≡ changeWith op old new
+changed op old new p e = rw e
 
 module _ (t : Third) (s : List ℕ) where
   pub no-comma : has comma s ≡ false → Syntax ≡ operatorsOf t s

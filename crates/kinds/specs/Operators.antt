@@ -2,11 +2,13 @@
 use Prim.Native.Nat.{ℕ}
 use mathlib.Core.Bool.{Bool, cond, _&&_}
 use mathlib.Core.List.{List}
-use lib.Dec.{leb}
+use lib.Dec.{ltb}
 use lib.ListN.{length}
 use Rattle.wire.specs.Bytes.{within}
 use Rattle.text.specs.Parts.{has, upTo, past}
 use Rattle.figures.specs.Numbers.{fieldOf}
+use Rattle.figures.specs.declared.Number.{Number}
+use Rattle.figures.specs.declared.Number.the-variants.{NotOne}
 use Rattle.labels.specs.Texts.{isName}
 use Rattle.kinds.specs.Fields.{fieldThen, comma}
 use Rattle.kinds.specs.declared.Command.the-variants.{Open, ChangePassword, ChangeName}
@@ -16,41 +18,41 @@ use Rattle.kinds.specs.declared.Password.{Password}
 use Rattle.kinds.specs.declared.operators.Third.{Third}
 use Rattle.kinds.specs.declared.operators.Third.the-variants as third
 
--- PROTOCOL 5.3: Op is from 1 to 8, and a password has 4 digits at least (DECISIONS 10)
-abbrev pub isOperator : (op : ℕ) → (password : List ℕ) → Bool
-isOperator op pwd = within 1 8 op && leb 4 (length pwd)
+-- PROTOCOL 5.3: Op is from 1 to 8
+abbrev pub isOp : ℕ → Bool
+isOp op = within 1 8 op
 
--- PROTOCOL 5.3: the digits as they were sent, so with their number
+-- PROTOCOL 5.3: a password has 4 to 6 digits (DECISIONS 10)
+abbrev pub secretOf : List ℕ → Number
+secretOf s = cond (ltb (length s) 4) NotOne (fieldOf 6 s)
+
+-- the digits as they were sent, so with their number
 abbrev pub passwordAs : List ℕ → ℕ → Password
 passwordAs digits value = record { digits = length digits; value = value }
 
--- PROTOCOL 5.3: 48: Op, Pwd and Till, each with its number of digits
-abbrev pub openWith : List ℕ → List ℕ → List ℕ → Parsed
-openWith op pwd till =
-    fieldThen (fieldOf 1 op) (λ o.
-    fieldThen (fieldOf 6 pwd) (λ p.
-    fieldThen (fieldOf 5 till) (λ t.
-    cond (isOperator o pwd) (Read (Open o (passwordAs pwd p) t)) Syntax)))
+-- PROTOCOL 5.3: 48: Till has 1 to 5 digits
+abbrev pub openWith : ℕ → Password → List ℕ → Parsed
+openWith op password till = fieldThen (fieldOf 5 till) (λ t. Read (Open op password t))
 
--- PROTOCOL 5.18: 101: Op, the old password and the new one
-abbrev pub changeWith : List ℕ → List ℕ → List ℕ → Parsed
-changeWith op old new =
-    fieldThen (fieldOf 1 op) (λ o.
-    fieldThen (fieldOf 6 old) (λ p.
-    fieldThen (fieldOf 6 new) (λ q.
-    cond (isOperator o old && isOperator o new) (Read (ChangePassword o (passwordAs old p) (passwordAs new q))) Syntax)))
+-- PROTOCOL 5.18: 101: the new password
+abbrev pub changeWith : ℕ → Password → List ℕ → Parsed
+changeWith op old new = fieldThen (secretOf new) (λ p. Read (ChangePassword op old (passwordAs new p)))
 
--- PROTOCOL 5.19: 102: Op, Pwd and a name
-abbrev pub nameWith : List ℕ → List ℕ → List ℕ → Parsed
-nameWith op pwd name =
-    fieldThen (fieldOf 1 op) (λ o.
-    fieldThen (fieldOf 6 pwd) (λ p.
-    cond (isOperator o pwd && isName name) (Read (ChangeName o (passwordAs pwd p))) Syntax))
+-- PROTOCOL 5.19: 102: a name
+abbrev pub nameWith : ℕ → Password → List ℕ → Parsed
+nameWith op password name = cond (isName name) (Read (ChangeName op password)) Syntax
 
+abbrev pub thirdOf : Third → ℕ → Password → List ℕ → Parsed
+thirdOf third.Till = openWith
+thirdOf third.Password = changeWith
+thirdOf third.Name = nameWith
+
+-- PROTOCOL 5.3, 5.18, 5.19: Op and Pwd, alike in all three, then the third field
 abbrev pub withThird : Third → List ℕ → List ℕ → List ℕ → Parsed
-withThird third.Till = openWith
-withThird third.Password = changeWith
-withThird third.Name = nameWith
+withThird t op pwd last =
+    fieldThen (fieldOf 1 op) (λ o.
+    fieldThen (secretOf pwd) (λ p.
+    cond (isOp o) (thirdOf t o (passwordAs pwd p) last) Syntax))
 
 -- PROTOCOL 4.8: cut at the first comma and at the first one behind that
 abbrev pub operatorsOf : Third → List ℕ → Parsed

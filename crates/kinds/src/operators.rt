@@ -4,8 +4,7 @@ use crate::Parsed;
 use crate::Password;
 use figures::Number;
 ghost use mathlib.Core.Path.{_≡_};
-ghost use mathlib.Core.Bool.{_&&_};
-ghost use Rattle.kinds.specs.Operators.{isOperator, openWith, changeWith, nameWith, withThird, operatorsOf, nameIn};
+ghost use Rattle.kinds.specs.Operators.{isOp, secretOf, openWith, changeWith, nameWith, withThird, operatorsOf, nameIn};
 
 // What stands behind Op and Pwd: of 48 Till, of 101 the new password, of 102 the name.
 pub enum Third {
@@ -32,104 +31,88 @@ pub fn read_fields(third: Third, s: &[u8]) -> Parsed
     read_third(third, &s[..first], &rest[..second], &rest[last..])
 }
 
+// Op and Pwd are read alike in all three.
 fn read_third(third: Third, op: &[u8], password: &[u8], last: &[u8]) -> Parsed
     ensures { λ r. ⌜ r ≡ withThird third (now (op .entry)) (now (password .entry)) (now (last .entry)) ⌝ }
 {
+    let a = figures::digits(op, 1);
+    let Number::Is(o) = a else {
+        return Parsed::Syntax;
+    };
+    let b = read_secret(password);
+    let Number::Is(p) = b else {
+        return Parsed::Syntax;
+    };
+    if !is_op(o) {
+        return Parsed::Syntax;
+    }
+    let given = Password {
+        digits: password.len(),
+        value: p,
+    };
     match third {
-        Third::Till => open_with(op, password, last),
-        Third::Password => change_with(op, password, last),
-        Third::Name => name_with(op, password, last),
+        Third::Till => open_with(o, given, last),
+        Third::Password => change_with(o, given, last),
+        Third::Name => name_with(o, given, last),
     }
 }
 
-// Op is from 1 to 8, and a password has four digits at least.
-fn is_operator(op: u64, password: &[u8]) -> bool
-    ensures { λ r. ⌜ r ≡ isOperator op (now (password .entry)) ⌝ }
+// There are eight operators.
+pub fn is_op(op: u64) -> bool
+    ensures { λ r. ⌜ r ≡ isOp op ⌝ }
 {
-    (1 <= op) & (op <= 8) & (4 <= password.len())
+    (1 <= op) & (op <= 8)
+}
+
+// A password has four to six digits.
+fn read_secret(s: &[u8]) -> Number
+    ensures { λ r. ⌜ r ≡ secretOf (now (s .entry)) ⌝ }
+{
+    if s.len() < 4 {
+        return Number::NotOne;
+    }
+    figures::digits(s, 6)
 }
 
 // Till has 1 to 5 digits.
-fn open_with(op: &[u8], password: &[u8], till: &[u8]) -> Parsed
-    ensures { λ r. ⌜ r ≡ openWith (now (op .entry)) (now (password .entry)) (now (till .entry)) ⌝ }
+fn open_with(op: u64, password: Password, till: &[u8]) -> Parsed
+    ensures { λ r. ⌜ r ≡ openWith op password (now (till .entry)) ⌝ }
 {
-    let a = figures::digits(op, 1);
-    let Number::Is(o) = a else {
+    let read = figures::digits(till, 5);
+    let Number::Is(t) = read else {
         return Parsed::Syntax;
     };
-    let b = figures::digits(password, 6);
-    let Number::Is(p) = b else {
-        return Parsed::Syntax;
-    };
-    let c = figures::digits(till, 5);
-    let Number::Is(t) = c else {
-        return Parsed::Syntax;
-    };
-    if is_operator(o, password) {
-        return Parsed::Read(Command::Open {
-            op: o,
-            password: Password {
-                digits: password.len(),
-                value: p,
-            },
-            till: t,
-        });
-    }
-    Parsed::Syntax
+    Parsed::Read(Command::Open {
+        op,
+        password,
+        till: t,
+    })
 }
 
 // The new password is one too.
-fn change_with(op: &[u8], old: &[u8], new: &[u8]) -> Parsed
-    ensures { λ r. ⌜ r ≡ changeWith (now (op .entry)) (now (old .entry)) (now (new .entry)) ⌝ }
+fn change_with(op: u64, old: Password, new: &[u8]) -> Parsed
+    ensures { λ r. ⌜ r ≡ changeWith op old (now (new .entry)) ⌝ }
 {
-    let a = figures::digits(op, 1);
-    let Number::Is(o) = a else {
+    let read = read_secret(new);
+    let Number::Is(p) = read else {
         return Parsed::Syntax;
     };
-    let b = figures::digits(old, 6);
-    let Number::Is(p) = b else {
-        return Parsed::Syntax;
-    };
-    let c = figures::digits(new, 6);
-    let Number::Is(q) = c else {
-        return Parsed::Syntax;
-    };
-    if is_operator(o, old) & is_operator(o, new) {
-        return Parsed::Read(Command::ChangePassword {
-            op: o,
-            old: Password {
-                digits: old.len(),
-                value: p,
-            },
-            new: Password {
-                digits: new.len(),
-                value: q,
-            },
-        });
-    }
-    Parsed::Syntax
+    Parsed::Read(Command::ChangePassword {
+        op,
+        old,
+        new: Password {
+            digits: new.len(),
+            value: p,
+        },
+    })
 }
 
 // The name stays in the data.
-fn name_with(op: &[u8], password: &[u8], name: &[u8]) -> Parsed
-    ensures { λ r. ⌜ r ≡ nameWith (now (op .entry)) (now (password .entry)) (now (name .entry)) ⌝ }
+fn name_with(op: u64, password: Password, name: &[u8]) -> Parsed
+    ensures { λ r. ⌜ r ≡ nameWith op password (now (name .entry)) ⌝ }
 {
-    let a = figures::digits(op, 1);
-    let Number::Is(o) = a else {
-        return Parsed::Syntax;
-    };
-    let b = figures::digits(password, 6);
-    let Number::Is(p) = b else {
-        return Parsed::Syntax;
-    };
-    if is_operator(o, password) & labels::is_name(name) {
-        return Parsed::Read(Command::ChangeName {
-            op: o,
-            password: Password {
-                digits: password.len(),
-                value: p,
-            },
-        });
+    if labels::is_name(name) {
+        return Parsed::Read(Command::ChangeName { op, password });
     }
     Parsed::Syntax
 }

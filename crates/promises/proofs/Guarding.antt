@@ -10,12 +10,13 @@ use Rattle.kinds.specs.declared.Parsed.the-variants.{Read}
 use Rattle.kinds.specs.declared.Password.{Password}
 use Rattle.command.specs.Commands.{parsedOf}
 use Rattle.sheet.specs.declared.Line.{Line}
-use Rattle.guard.specs.Guard.{isOp, isLocked, isRight, passwordOf, nameOf, calmed, passes, judgedBy}
+use Rattle.kinds.specs.Operators.{isOp}
+use Rattle.guard.specs.Guard.{isLocked, isRight, passwordOf, nameOf, calmed, passes, judgedBy}
 use Rattle.guard.specs.declared.Guard.{Guard}
 use Rattle.guard.specs.declared.Verdict.the-variants.{Right, Wrong, Locked}
 use Rattle.trials.specs.Changes.{Wide, Short, passesBy}
 use Rattle.trials.specs.Tries.{Came, guardBehind, triesFrom, ThreeWrong}
-use Rattle.trials.proofs.Changing.{fresh-wide, judged-wide, calmed-wide, a-password-changes-only-by-101}
+use Rattle.trials.proofs.Changing.{fresh-wide, judged-wide, calmed-wide, passes-as, a-password-changes-only-by-101}
 use Rattle.trials.proofs.Locking.{locked-by-three-wrong, locked-only-by-three-wrong}
 use Rattle.trials.proofs.Names.{fresh-short, judged-short, calmed-short, a-name-changes-only-by-102}
 use Rattle.books.specs.declared.Books.{Books}
@@ -103,9 +104,14 @@ module _ (sheet : List Line) (arrived : List Moment) where
 -- and these are done, number 0, exactly where the password passes; else they are 3
 by-both : (b : Books) (locked right : Bool)
     → _≡_ {A = ℕ} (cond (passes (cond locked Locked (cond right Right Wrong))) (done b Nothing) (refusedWith 3 b) .number) (cond (not locked && right) 0 3)
-by-both b true right = refl
-by-both b false true = refl
-by-both b false false = refl
+by-both b locked right = ap number (passes-as locked right) ∙ either (not locked && right)
+  where
+    number : Bool → ℕ
+    number let-pass = cond let-pass (done b Nothing) (refusedWith 3 b) .number
+
+    either : (let-pass : Bool) → number let-pass ≡ cond let-pass 0 3
+    either true = refl
+    either false = refl
 
 pub a-101-is-done-or-3 : (s : Store) (m : Message) (op : ℕ) (old new : Password) → parsedOf (m .code) (m .content) ≡ Read (ChangePassword op old new)
     → carry s m .number ≡ cond (passesBy (s .guard) op old) 0 3

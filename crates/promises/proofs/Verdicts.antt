@@ -20,8 +20,9 @@ use Rattle.labels.specs.Texts.{isName, restOf}
 use Rattle.labels.specs.declared.Found.{Found}
 use Rattle.labels.specs.declared.Found.the-variants.{At, NotThere}
 use Rattle.kinds.specs.Fields.{comma, endsOr}
-use Rattle.kinds.specs.Operators.{isOperator, withThird, operatorsOf}
+use Rattle.kinds.specs.Operators.{isOp, secretOf, passwordAs, thirdOf, withThird, operatorsOf}
 use Rattle.kinds.specs.Plain.{sumsOf, closingOf}
+use Rattle.kinds.specs.declared.Password.{Password}
 use Rattle.kinds.specs.declared.operators.Third.{Third}
 use Rattle.kinds.specs.declared.operators.Third.the-variants as third
 use Rattle.kinds.specs.declared.Adjust.{Adjust}
@@ -66,23 +67,20 @@ signed-right (By minus n) p k = k refl
 signed-right Neither p k = syntax
 
 -- 48, 101 and 102
-third-right : (t : Third) (op pwd last : List ℕ) → Right (withThird t op pwd last)
-third-right third.Till op pwd last =
+third-right : (t : Third) (op : ℕ) (p : Password) (last : List ℕ) → Right (thirdOf t op p last)
+third-right third.Till op p last = field-right (fieldOf 5 last) _ (λ e. plain (λ books m. refl) refl)
+third-right third.Password op p last = field-right (secretOf last) _ (λ e. plain (λ books m. refl) refl)
+third-right third.Name op p last = either (isName last) _ Syntax (plain (λ books m. refl) refl) syntax
+
+with-third-right : (t : Third) (op pwd last : List ℕ) → Right (withThird t op pwd last)
+with-third-right t op pwd last =
     field-right (fieldOf 1 op) _ (λ eo.
-    field-right (fieldOf 6 pwd) _ (λ ep.
-    field-right (fieldOf 5 last) _ (λ et. either (isOperator (fieldValue (fieldOf 1 op)) pwd) _ Syntax (plain (λ books m. refl) refl) syntax)))
-third-right third.Password op pwd last =
-    field-right (fieldOf 1 op) _ (λ eo.
-    field-right (fieldOf 6 pwd) _ (λ ep.
-    field-right (fieldOf 6 last) _ (λ eq.
-    either (isOperator (fieldValue (fieldOf 1 op)) pwd && isOperator (fieldValue (fieldOf 1 op)) last) _ Syntax (plain (λ books m. refl) refl) syntax)))
-third-right third.Name op pwd last =
-    field-right (fieldOf 1 op) _ (λ eo.
-    field-right (fieldOf 6 pwd) _ (λ ep. either (isOperator (fieldValue (fieldOf 1 op)) pwd && isName last) _ Syntax (plain (λ books m. refl) refl) syntax))
+    field-right (secretOf pwd) _ (λ ep.
+    either (isOp (fieldValue (fieldOf 1 op))) _ Syntax (third-right t (fieldValue (fieldOf 1 op)) (passwordAs pwd (fieldValue (secretOf pwd))) last) syntax))
 
 operators-right : (t : Third) (s : List ℕ) → Right (operatorsOf t s)
 operators-right t s =
-    either (has comma s && has comma (past comma s)) _ Syntax (third-right t (upTo comma s) (upTo comma (past comma s)) (past comma (past comma s))) syntax
+    either (has comma s && has comma (past comma s)) _ Syntax (with-third-right t (upTo comma s) (upTo comma (past comma s)) (past comma (past comma s))) syntax
 
 sums-right : (s : List ℕ) → Right (sumsOf s)
 sums-right [] = plain (λ books m. refl) refl

@@ -2,30 +2,23 @@
 use mathlib.Core.Path.{_≡_, refl, ap, _∙_}
 use mathlib.Core.Bool.{Bool, true, false, cond, not, _&&_}
 use mathlib.Core.List.{List}
-use Prim.Native.Nat.{ℕ, _-_, _*_, _≤_}
+use Prim.Native.Nat.{ℕ, _-_, _*_}
 use native.Mathlib.Omega.{arith}
-use lib.Dec.{leb, eqb}
+use lib.Dec.{eqb}
 use lib.ListN.{length, take, length-set}
 use lib.Seq.{length-sets, getD-set-same, getD-set-other}
-use borrow.Author.Tests.{leb-true, eqb-true, eqb-false}
-use Rattle.basics.proofs.Tests.{both}
-use Rattle.kinds.specs.Operators.{nameIn}
+use borrow.Author.Tests.{eqb-true, eqb-false}
+use Rattle.kinds.specs.Operators.{isOp, nameIn}
 use Rattle.kinds.specs.declared.Parsed.{Parsed}
 use Rattle.kinds.specs.declared.Parsed.the-variants.{Read, Syntax, Unknown}
 use Rattle.kinds.specs.declared.Password.{Password}
-use Rattle.guard.specs.Guard.{freshGuard, isOp, passwordOf, isLocked, isRight, withCount, calmed, withPassword, withName, trialOf, tried, verdictOf, passes, changedBy, countAfter, judgedOf, judgedBy}
+use Rattle.guard.proofs.Verdicts.{op-from, op-to}
+use Rattle.guard.specs.Guard.{freshGuard, passwordOf, isLocked, isRight, withCount, calmed, withPassword, withName, trialOf, tried, verdictOf, passes, changedBy, countAfter, judgedOf, judgedBy}
 use Rattle.guard.specs.declared.Guard.{Guard}
 use Rattle.guard.specs.declared.Trial.{Trial}
 use Rattle.guard.specs.declared.Trial.the-variants as trial
 use Rattle.guard.specs.declared.Verdict.the-variants.{Right, Wrong, Locked}
 use Rattle.trials.specs.Changes.{Wide, passwordBy, passwordAfter}
-
--- an operator's number
-pub op-from : (op : ℕ) → isOp op ≡ true → 1 ≤ op
-op-from op is = leb-true 1 op (both (leb 1 op) (leb op 8) is .0)
-
-pub op-to : (op : ℕ) → isOp op ≡ true → op ≤ 8
-op-to op is = leb-true op 8 (both (leb 1 op) (leb op 8) is .1)
 
 -- two operators stand at two places
 pub apart : (of op : ℕ) → isOp of ≡ true → isOp op ≡ true → eqb of op ≡ false → op - 1 ≡ of - 1 → ⊥

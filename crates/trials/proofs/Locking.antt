@@ -13,6 +13,7 @@ use Rattle.trials.specs.Tries.{Came, Tried, none, right, wrong, triedBy,
 use Rattle.guard.specs.declared.Guard.{Guard}
 use Rattle.guard.specs.declared.Trial.{Trial}
 use Rattle.guard.specs.declared.Trial.the-variants as trial
+use Rattle.trials.proofs.Changing.{same-either}
 use Rattle.guard.specs.declared.Verdict.the-variants.{Right, Wrong, Locked}
 
 -- the count alone
@@ -34,20 +35,16 @@ by-verdict g true r = refl
 by-verdict g false true = refl
 by-verdict g false false = refl
 
-same-either : (b : Bool) (n : ℕ) → n ≡ cond b n n
-same-either true n = refl
-same-either false n = refl
-
 by-trial : (g : Guard) (t : Trial) → countAfter g (verdictOf g t) ≡ counted (g .wrong) (triedBy g t)
-by-trial g trial.Nothing = same-either (isLocked g) (g .wrong)
+by-trial g trial.Nothing = sym (same-either (isLocked g) (g .wrong))
 by-trial g (trial.Open op p) = by-verdict g (isLocked g) (isRight g op p)
 by-trial g (trial.Change op old new) = by-verdict g (isLocked g) (isRight g op old)
 by-trial g (trial.Name op p) = by-verdict g (isLocked g) (isRight g op p)
 
 counts : (g : Guard) (p : Parsed) (content : List ℕ) → judgedBy g p content .guard .wrong ≡ counted (g .wrong) (triedIn g p)
 counts g (Read c) content = by-trial g (trialOf c)
-counts g Syntax content = same-either (isLocked g) (g .wrong)
-counts g Unknown content = same-either (isLocked g) (g .wrong)
+counts g Syntax content = sym (same-either (isLocked g) (g .wrong))
+counts g Unknown content = sym (same-either (isLocked g) (g .wrong))
 
 all-counted : (g : Guard) (cs : List Came) → guardBehind g cs .wrong ≡ countBehind (g .wrong) (triesFrom g cs)
 all-counted g [] = refl
@@ -65,7 +62,7 @@ stands-still n (t ∷ ts) e =
 begun-locks : (k n : ℕ) (ts : List Tried) → BeginsWrong k ts → 3 ≤ n + k → leb 3 (countBehind n ts) ≡ true
 begun-locks k n ts no-more h = let e = le-leb 3 n (omega (arith, h)) in ap (leb 3) (stands-still n ts e) ∙ e
 begun-locks k n (none ∷ ts) (passed-by w) h =
-    ap (λ m. leb 3 (countBehind m ts)) (sym (same-either (leb 3 n) n)) ∙ begun-locks k n ts w h
+    ap (λ m. leb 3 (countBehind m ts)) (same-either (leb 3 n) n) ∙ begun-locks k n ts w h
 begun-locks (suc k) n (wrong ∷ ts) (one-more w) h = go (leb 3 n) refl (begun-locks k (n + 1) ts w (omega (arith, h)))
   where
     go : (b : Bool) → leb 3 n ≡ b → leb 3 (countBehind (n + 1) ts) ≡ true → leb 3 (countBehind (cond b n (n + 1)) ts) ≡ true

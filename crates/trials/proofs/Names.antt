@@ -15,18 +15,19 @@ use Rattle.text.specs.Parts.{every, has, upTo, past}
 use Rattle.figures.specs.Numbers.{fieldOf, fieldNumber, fieldValue}
 use Rattle.labels.specs.Texts.{isName}
 use Rattle.kinds.specs.Fields.{endsOr, comma}
-use Rattle.kinds.specs.Operators.{isOperator, passwordAs, nameWith, operatorsOf, nameIn}
+use Rattle.kinds.specs.Operators.{isOp, secretOf, passwordAs, nameWith, withThird, operatorsOf, nameIn}
 use Rattle.kinds.specs.declared.Command.the-variants.{ChangeName}
 use Rattle.kinds.specs.declared.Parsed.{Parsed}
 use Rattle.kinds.specs.declared.Parsed.the-variants.{Read, Syntax, Unknown}
 use Rattle.kinds.specs.declared.Password.{Password}
 use Rattle.kinds.specs.declared.operators.Third.the-variants as third
-use Rattle.guard.specs.Guard.{freshGuard, isOp, nameOf, isLocked, isRight, withCount, calmed, withPassword, withName, trialOf, tried, verdictOf, passes, changedBy, countAfter, judgedOf, judgedBy}
+use Rattle.guard.proofs.Verdicts.{op-from, op-to}
+use Rattle.guard.specs.Guard.{freshGuard, nameOf, isLocked, isRight, withCount, calmed, withPassword, withName, trialOf, tried, verdictOf, passes, changedBy, countAfter, judgedOf, judgedBy}
 use Rattle.guard.specs.declared.Guard.{Guard}
 use Rattle.guard.specs.declared.Trial.{Trial}
 use Rattle.guard.specs.declared.Trial.the-variants as trial
 use Rattle.trials.specs.Changes.{Wide, Short, nameBy, nameAfter}
-use Rattle.trials.proofs.Changing.{op-from, op-to, apart, passes-as, when-both, same-either}
+use Rattle.trials.proofs.Changing.{apart, passes-as, when-both, same-either}
 
 none-set : (n i : ℕ) → getD (replicate n 0) i 0 ≤ 24
 none-set zero i = omega arith
@@ -179,22 +180,22 @@ went-on true d x e = e
 went-on false true x e = absurd (false≢true e)
 went-on false false x e = absurd (false≢true e)
 
-name-so : (op pwd name : List ℕ) → isRead (nameWith op pwd name) ≡ true → isName name ≡ true
+name-so : (op pwd name : List ℕ) → isRead (withThird third.Name op pwd name) ≡ true → isName name ≡ true
 name-so op pwd name e =
     let o = fieldValue (fieldOf 1 op) in
-    let p = fieldValue (fieldOf 6 pwd) in
-    let last = cond (isOperator o pwd && isName name) (Read (ChangeName o (passwordAs pwd p))) Syntax in
-    let inner = endsOr (fieldNumber (fieldOf 6 pwd)) last in
+    let p = passwordAs pwd (fieldValue (secretOf pwd)) in
+    let last = cond (isOp o) (nameWith o p name) Syntax in
+    let inner = endsOr (fieldNumber (secretOf pwd)) last in
     let e1 = went-on (eqb (fieldNumber (fieldOf 1 op)) 0) (eqb (fieldNumber (fieldOf 1 op)) 1) inner e in
-    let e2 = went-on (eqb (fieldNumber (fieldOf 6 pwd)) 0) (eqb (fieldNumber (fieldOf 6 pwd)) 1) last e1 in
-    both (isOperator o pwd) (isName name) (read-so (isOperator o pwd && isName name) (Read (ChangeName o (passwordAs pwd p))) e2 .0) .1
+    let e2 = went-on (eqb (fieldNumber (secretOf pwd)) 0) (eqb (fieldNumber (secretOf pwd)) 1) last e1 in
+    read-so (isName name) (Read (ChangeName o p)) (read-so (isOp o) (nameWith o p name) e2 .1) .0
 
 -- PROTOCOL 5.19: so nothing of a name that was read is cut
 pub a-name-read-fits : (content : List ℕ) (op : ℕ) (p : Password) → operatorsOf third.Name content ≡ Read (ChangeName op p) → take 24 (nameIn content) ≡ nameIn content
 a-name-read-fits content op p e =
     let rest = past comma content in
     let name = nameIn content in
-    let form = nameWith (upTo comma content) (upTo comma rest) name in
+    let form = withThird third.Name (upTo comma content) (upTo comma rest) name in
     let read = read-so (has comma content && has comma rest) form (ap isRead e) .1 in
     let fits = name-so (upTo comma content) (upTo comma rest) name read in
     take-all 24 name (leb-true (length name) 24 (both (leb (length name) 24) (every (leb 0x20) name) fits .0))
