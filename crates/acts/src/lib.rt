@@ -27,6 +27,7 @@ fn act(books: Books, m: Match, view: View) -> Deed
     match view {
         View::Opens => fiscal::open_fiscal(books),
         View::Sells(s) => sales::sell(books, m, s),
+        View::Adjusts(a) => sales::adjust(books, a),
         View::Pays(p) => sales::pay(books, p),
         View::Closes => fiscal::close(books),
         View::Cancels => sales::cancel(books),

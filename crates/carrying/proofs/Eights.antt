@@ -24,7 +24,7 @@ use Rattle.rules.specs.Reasons.{owed, tendered}
 use Rattle.rules.specs.Rules.{Rule, ruleOf}
 use Rattle.rules.specs.Views.{viewOf}
 use Rattle.rules.specs.declared.views.View.{View}
-use Rattle.rules.specs.declared.views.View.the-variants.{Opens, Sells, Pays, Closes, Cancels, OpensText, ClosesText, Clears, Puts, Takes, Asks}
+use Rattle.rules.specs.declared.views.View.the-variants.{Opens, Sells, Adjusts, Pays, Closes, Cancels, OpensText, ClosesText, Clears, Puts, Takes, Asks}
 use Rattle.deeds.specs.Deeds.{refusedWith, doneWith, deedOf}
 use Rattle.deeds.specs.declared.Deed.{Deed}
 use Rattle.answers.specs.Contents.{contentOf}

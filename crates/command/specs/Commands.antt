@@ -5,10 +5,11 @@ use mathlib.Core.List.{List, []}
 use lib.Dec.{eqb}
 use Rattle.text.specs.Parts.{has}
 use Rattle.labels.specs.Texts.{onlyLine, firstLine, secondLine}
-use Rattle.kinds.specs.Plain.{bareOf, textOf, subtotalOf, sumsOf, closingOf, showOf}
+use Rattle.kinds.specs.Plain.{bareOf, textOf, sumsOf, closingOf, showOf}
 use Rattle.kinds.specs.Operators.{operatorsOf}
 use Rattle.kinds.specs.declared.operators.Third.the-variants as third
 use Rattle.money.specs.Money.{sellOf, payOf, drawerOf}
+use Rattle.money.specs.Subtotals.{subtotalOf}
 use Rattle.kinds.specs.declared.Command.the-variants.{OpenText, CloseText, Close, Cancel, Status, Rates}
 use Rattle.kinds.specs.declared.Parsed.{Parsed}
 use Rattle.kinds.specs.declared.Parsed.the-variants.{Read, Syntax, Unknown}

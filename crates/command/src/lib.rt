@@ -42,7 +42,7 @@ fn form_of(code: u8, bytes: &[u8]) -> Parsed
         42 => plain::text(bytes),
         48 => operators::read_fields(Third::Till, bytes),
         49 => money::sell(bytes),
-        51 => plain::subtotal(bytes),
+        51 => money::subtotals::subtotal(bytes),
         53 => money::pay(bytes),
         56 => plain::bare(Command::Close, bytes),
         60 => plain::bare(Command::Cancel, bytes),

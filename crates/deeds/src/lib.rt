@@ -21,7 +21,7 @@ pub struct Deed {
     pub note: Note,
 }
 
-// Every command that changes nothing of the books: 42, 51, 65, 69 with `2`, 70 without an amount, 74, 97, 100, 101, 102.
+// Every command that changes nothing of the books: 42, 51 without Percent and Abs, 65, 69 with `2`, 70 without an amount, 74, 97, 100, 101, 102.
 pub fn ask(books: Books, when: When, shown: Shown) -> Deed
     ensures { λ r. ⌜ r ≡ deedOf books noMatch (Asks when shown) ⌝ }
 {

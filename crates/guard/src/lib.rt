@@ -93,7 +93,11 @@ pub fn trial_of(command: Command) -> Trial
             till: _,
         } => Trial::Open { op, password },
         Command::Sell(_) => Trial::Nothing,
-        Command::Subtotal { print: _, show: _ } => Trial::Nothing,
+        Command::Subtotal {
+            print: _,
+            show: _,
+            adjust: _,
+        } => Trial::Nothing,
         Command::Pay(_) => Trial::Nothing,
         Command::Close => Trial::Nothing,
         Command::Cancel => Trial::Nothing,

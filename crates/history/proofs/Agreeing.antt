@@ -22,7 +22,7 @@ use Rattle.books.proofs.Sounding.{zeros}
 use Rattle.answers.specs.Contents.{contentOf}
 use Rattle.rules.specs.Rules.{ruleOf}
 use Rattle.rules.specs.declared.views.View.{View}
-use Rattle.rules.specs.declared.views.View.the-variants.{Opens, Sells, Pays, Closes, Cancels, OpensText, ClosesText, Clears, Puts, Takes, Asks}
+use Rattle.rules.specs.declared.views.View.the-variants.{Opens, Sells, Adjusts, Pays, Closes, Cancels, OpensText, ClosesText, Clears, Puts, Takes, Asks}
 use Rattle.rules.proofs.Reasoning.{takes-within}
 use Rattle.history.specs.Agrees.{ReceiptAgrees, Says}
 use Rattle.history.specs.Digits.{leftOf}

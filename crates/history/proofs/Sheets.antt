@@ -23,7 +23,7 @@ use Rattle.receipt.proofs.Adjusting.{fits-parts}
 use Rattle.rules.specs.Rules.{noteOf, ruleOf}
 use Rattle.rules.specs.Views.{ofSale}
 use Rattle.rules.specs.declared.views.View.{View}
-use Rattle.rules.specs.declared.views.View.the-variants.{Opens, Sells, Pays, Closes, Cancels, OpensText, ClosesText, Clears, Puts, Takes, Asks}
+use Rattle.rules.specs.declared.views.View.the-variants.{Opens, Sells, Adjusts, Pays, Closes, Cancels, OpensText, ClosesText, Clears, Puts, Takes, Asks}
 use Rattle.rules.specs.Searches.{searched}
 use Rattle.store.specs.Commands.{placeFor, matchFor}
 use Rattle.store.specs.Store.{Store}

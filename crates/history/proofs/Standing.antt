@@ -16,7 +16,7 @@ use Rattle.sheet.specs.declared.Match.{Match}
 use Rattle.receipt.specs.Lines.{productOf, finishedOf}
 use Rattle.rules.specs.Views.{ofSale}
 use Rattle.rules.specs.declared.views.View.{View}
-use Rattle.rules.specs.declared.views.View.the-variants.{Opens, Sells, Pays, Closes, Cancels, OpensText, ClosesText, Clears, Puts, Takes, Asks}
+use Rattle.rules.specs.declared.views.View.the-variants.{Opens, Sells, Adjusts, Pays, Closes, Cancels, OpensText, ClosesText, Clears, Puts, Takes, Asks}
 use Rattle.history.specs.Entries.{Entry, didOf}
 use Rattle.history.specs.History.{ReceiptTold, isAnother, receiptAfter, figuresOf}
 use Rattle.history.specs.Sold.{isLike, newestLike, withoutNewest, amountTold, soldAfter}

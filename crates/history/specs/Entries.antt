@@ -3,6 +3,7 @@ use Prim.Native.Nat.{ℕ, zero, suc}
 use mathlib.Core.Bool.{Bool, true, false, cond}
 use mathlib.Core.List.{List}
 use lib.Dec.{eqb}
+use Rattle.kinds.specs.declared.Adjust.{Adjust}
 use Rattle.kinds.specs.declared.Command.{Command}
 use Rattle.kinds.specs.declared.Payment.{Payment}
 use Rattle.books.specs.declared.Books.{Books}
@@ -11,7 +12,7 @@ use Rattle.books.specs.declared.Shown.the-variants.{Nothing}
 use Rattle.answers.specs.Contents.{contentOf}
 use Rattle.rules.specs.Views.{viewOf}
 use Rattle.rules.specs.declared.views.View.{View}
-use Rattle.rules.specs.declared.views.View.the-variants.{Opens, Sells, Pays, Closes, Cancels, OpensText, ClosesText, Clears, Puts, Takes, Asks}
+use Rattle.rules.specs.declared.views.View.the-variants.{Opens, Sells, Adjusts, Pays, Closes, Cancels, OpensText, ClosesText, Clears, Puts, Takes, Asks}
 use Rattle.rules.specs.declared.views.When.the-variants.{Always}
 use Rattle.deeds.specs.declared.Deed.{Deed}
 
@@ -38,6 +39,7 @@ didOf e = cond (isDone (e .number)) (viewOf (e .command)) (Asks Always Nothing)
 abbrev pub codeOf : View → ℕ
 codeOf Opens = 48
 codeOf (Sells s) = 49
+codeOf (Adjusts a) = 51
 codeOf (Pays p) = 53
 codeOf Closes = 56
 codeOf Cancels = 60
@@ -51,11 +53,13 @@ codeOf (Asks when shown) = 0
 abbrev pub does : ℕ → View → Bool
 does code v = eqb (codeOf v) code
 
--- what a payment, 70 with an amount, and a command that only asks hold; of every other view `none` (of a line: `ofSale` of the views)
+-- what a payment, 51 with a Percent or an Abs, 70 with an amount, and a command that only asks hold; of every other view `none` (of a line: `ofSale` of the
+-- views)
 module _ {A : Type 0} (none : A) where
   abbrev pub ofPayment : (Payment → A) → View → A
   ofPayment f Opens = none
   ofPayment f (Sells s) = none
+  ofPayment f (Adjusts a) = none
   ofPayment f (Pays p) = f p
   ofPayment f Closes = none
   ofPayment f Cancels = none
@@ -66,9 +70,24 @@ module _ {A : Type 0} (none : A) where
   ofPayment f (Takes n) = none
   ofPayment f (Asks when shown) = none
 
+  abbrev pub ofAdjust : (Adjust → A) → View → A
+  ofAdjust f Opens = none
+  ofAdjust f (Sells s) = none
+  ofAdjust f (Adjusts a) = f a
+  ofAdjust f (Pays p) = none
+  ofAdjust f Closes = none
+  ofAdjust f Cancels = none
+  ofAdjust f OpensText = none
+  ofAdjust f ClosesText = none
+  ofAdjust f Clears = none
+  ofAdjust f (Puts n) = none
+  ofAdjust f (Takes n) = none
+  ofAdjust f (Asks when shown) = none
+
   abbrev pub ofService : (puts takes : ℕ → A) → View → A
   ofService f g Opens = none
   ofService f g (Sells s) = none
+  ofService f g (Adjusts a) = none
   ofService f g (Pays p) = none
   ofService f g Closes = none
   ofService f g Cancels = none
@@ -82,6 +101,7 @@ module _ {A : Type 0} (none : A) where
   abbrev pub ofAsked : (Shown → A) → View → A
   ofAsked f Opens = none
   ofAsked f (Sells s) = none
+  ofAsked f (Adjusts a) = none
   ofAsked f (Pays p) = none
   ofAsked f Closes = none
   ofAsked f Cancels = none

@@ -6,12 +6,14 @@ use mathlib.Core.List.{List, [], _∷_}
 use lib.Dec.{eqb}
 use lib.ListN.{drop}
 use Rattle.text.specs.Digits.{number}
+use Rattle.kinds.specs.declared.Adjust.{Adjust}
 use Rattle.kinds.specs.declared.Mode.{Mode}
 use Rattle.kinds.specs.declared.Mode.the-variants.{Cash}
 use Rattle.kinds.specs.declared.Payment.{Payment}
 use Rattle.kinds.specs.declared.Sale.{Sale}
 use Rattle.sheet.specs.declared.Line.{Line}
 use Rattle.receipt.specs.Receipts.{givenOf}
+use Rattle.shares.specs.Shares.{sumAfter}
 use Rattle.books.specs.Groups.{eight, sum}
 use Rattle.books.specs.Registers.{place}
 use Rattle.books.specs.declared.Counters.{Counters}
@@ -20,7 +22,7 @@ use Rattle.books.specs.declared.Opened.{Opened}
 use Rattle.books.specs.declared.Opened.the-variants.{Nothing, Fiscal, Text}
 use Rattle.rules.specs.Views.{ofSale}
 use Rattle.rules.specs.declared.views.View.{View}
-use Rattle.history.specs.Entries.{Entry, didOf, does, ofPayment, ofService}
+use Rattle.history.specs.Entries.{Entry, didOf, does, ofPayment, ofAdjust, ofService}
 use Rattle.history.specs.Sold.{amountTold, soldAfter}
 
 -- PROTOCOL 5.4, 5.6: the open fiscal receipt: its eight sums, how many lines it has, and which, the newest first; what was paid, whether a 53 was done, and
@@ -54,7 +56,7 @@ pub record Figures : Type 0 where
 abbrev pub openedAfter : View → Opened → Opened
 openedAfter v o = cond (does 48 v) Fiscal (cond (does 38 v) Text (cond (does 39 v || does 56 v || does 60 v) Nothing o))
 
--- PROTOCOL 6.5: a group is its finished lines less those taken back; what a line takes off is told from the lines before it
+-- PROTOCOL 6.5: a group is its finished lines less those taken back, with its shares of what 51 changes; what a line takes off is told from the lines before it
 module _ (g : ℕ) (ls : List Line) (s : Sale) where
   abbrev pub added : ℕ
   added = cond (eqb (s .group) g && not (s .minus)) (amountTold ls s) 0
@@ -80,6 +82,11 @@ totalIn r = sum (eight (r .sums))
 
 abbrev pub dueIn : ReceiptTold → ℕ
 dueIn r = totalIn r - r .paid
+
+-- PROTOCOL 5.5, 6.8: 51 with a Percent or an Abs: each group has its share of it; it is no line
+abbrev pub withAdjustment : ReceiptTold → Adjust → ReceiptTold
+withAdjustment r a =
+    record { sums = sumAfter a (totalIn r) (r .sums); lines = r .lines; sold = r .sold; paid = r .paid; tried = r .tried; settled = r .settled }
 
 -- PROTOCOL 5.6: `R` and the change, read from the answer's data; with a `D` there is none
 abbrev pub saysR : List ℕ → Bool
@@ -115,7 +122,12 @@ isAnother v = does 48 v || does 56 v || does 60 v
 
 abbrev pub receiptAfter : View → List ℕ → ReceiptTold → ReceiptTold
 receiptAfter v shown r =
-    cond (isAnother v) noneTold (ofSale (ofPayment r (λ p. withPayment r p shown) v) (λ s. withSale r s) v)
+    cond (isAnother v) noneTold
+    (ofSale
+    (ofPayment
+    (ofAdjust r (λ a. withAdjustment r a) v)
+    (λ p. withPayment r p shown) v)
+    (λ s. withSale r s) v)
 
 -- PROTOCOL 6.7, 5.13: a receipt's groups reach the day sums with 56, and 69 clears them
 abbrev pub dayAfter : View → ReceiptTold → (ℕ → ℕ) → ℕ → ℕ

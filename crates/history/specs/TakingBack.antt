@@ -5,15 +5,17 @@ use mathlib.Core.Bool.{Bool, true, false, cond, not, _&&_}
 use mathlib.Core.List.{List, [], _∷_}
 use lib.Dec.{eqb}
 use lib.ListN.{length}
+use Rattle.kinds.specs.declared.Adjust.{Adjust}
 use Rattle.kinds.specs.declared.Sale.{Sale}
 use Rattle.sheet.specs.Notes.{takenBack}
 use Rattle.sheet.specs.Sheet.{blank, lineOf}
 use Rattle.sheet.specs.declared.Line.{Line}
 use Rattle.receipt.specs.Lines.{productOf, finishedOf}
+use Rattle.shares.specs.Shares.{sizeOf, isLess, shareAt}
 use Rattle.rules.specs.Views.{ofSale}
 use Rattle.rules.specs.declared.views.View.the-variants.{Sells}
-use Rattle.history.specs.Entries.{Entry, didOf}
-use Rattle.history.specs.History.{isAnother, figuresOf}
+use Rattle.history.specs.Entries.{Entry, didOf, ofAdjust}
+use Rattle.history.specs.History.{ReceiptTold, totalIn, isAnother, figuresOf}
 use Rattle.history.specs.Sold.{isLike}
 
 -- the lines of the open receipt, and the one at a place
@@ -61,6 +63,28 @@ standing (l ∷ ls) = cond (l .stands) 1 0 + standing ls
 abbrev pub worthOf : (group : ℕ) → List Line → ℕ
 worthOf g [] = 0
 worthOf g (l ∷ ls) = cond (l .stands && eqb (l .group) g) (l .amount) 0 + worthOf g ls
+
+-- PROTOCOL 6.8: a group's share in a Percent or an Abs on the receipt: of a discount, and of a surcharge
+module _ (g : ℕ) (r : ReceiptTold) (a : Adjust) where
+  abbrev pub shareTold : ℕ
+  shareTold = shareAt (sizeOf (totalIn r) a) (totalIn r) (r .sums) g
+
+  abbrev pub discountTold : ℕ
+  discountTold = cond (isLess a) shareTold 0
+
+  abbrev pub surchargeTold : ℕ
+  surchargeTold = cond (isLess a) 0 shareTold
+
+-- PROTOCOL 6.8: all discounts, and all surcharges, that a group of the open receipt had a share in
+abbrev pub sharesWhere : (ReceiptTold → Adjust → ℕ) → List Entry → ℕ
+sharesWhere f [] = 0
+sharesWhere f (e ∷ es) = cond (isAnother (didOf e)) 0 (sharesWhere f es + ofAdjust 0 (f (figuresOf es .receipt)) (didOf e))
+
+abbrev pub discountsIn : (group : ℕ) → List Entry → ℕ
+discountsIn g = sharesWhere (discountTold g)
+
+abbrev pub surchargesIn : (group : ℕ) → List Entry → ℕ
+surchargesIn g = sharesWhere (surchargeTold g)
 
 -- PROTOCOL 5.4: how many lines were done on the open receipt: sold, and with `-`
 abbrev pub linesWhere : (Sale → Bool) → List Entry → ℕ

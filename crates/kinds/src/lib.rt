@@ -8,7 +8,7 @@ pub struct Password {
     pub value: u64,
 }
 
-// What is done to a line behind its product: percents in hundredths, amounts in stotinki.
+// What is done to a line behind its product, or to a receipt's total: percents in hundredths, amounts in stotinki.
 pub enum Adjust {
     Nothing,
     PercentMore(u64),
@@ -69,6 +69,7 @@ pub enum Command {
     Subtotal {
         print: bool,
         show: bool,
+        adjust: Adjust,
     },
     Pay(Payment),
     Close,

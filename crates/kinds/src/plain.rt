@@ -2,7 +2,7 @@
 use crate::Command;
 use crate::Parsed;
 ghost use mathlib.Core.Path.{_≡_};
-ghost use Rattle.kinds.specs.Plain.{bareOf, textOf, subtotalOf, isFlag, sumsOf, closingOf, showOf};
+ghost use Rattle.kinds.specs.Plain.{bareOf, textOf, sumsOf, closingOf, showOf};
 
 // 38, 39, 56, 60, 74 and 97: no data.
 pub fn bare(command: Command, s: &[u8]) -> Parsed
@@ -22,33 +22,6 @@ pub fn text(s: &[u8]) -> Parsed
         return Parsed::Read(Command::PrintText);
     }
     Parsed::Syntax
-}
-
-fn is_flag(b: u8) -> bool
-    ensures { λ r. ⌜ r ≡ isFlag b ⌝ }
-{
-    (b'0' <= b) & (b <= b'1')
-}
-
-// 51: two characters, each `0` or `1`.
-pub fn subtotal(s: &[u8]) -> Parsed
-    ensures { λ r. ⌜ r ≡ subtotalOf (now (s .entry)) ⌝ }
-{
-    if s.len() != 2 {
-        return Parsed::Syntax;
-    }
-    let a = s[0];
-    let b = s[1];
-    if !is_flag(a) {
-        return Parsed::Syntax;
-    }
-    if !is_flag(b) {
-        return Parsed::Syntax;
-    }
-    Parsed::Read(Command::Subtotal {
-        print: a == b'1',
-        show: b == b'1',
-    })
 }
 
 // 65: the day sums, or with `1` the taxes.

@@ -7,8 +7,9 @@ use Rattle.sheet.specs.Sheet.{lineOf}
 use Rattle.sheet.specs.declared.Match.{Match}
 use Rattle.sheet.specs.declared.Note.{Note}
 use Rattle.sheet.specs.declared.Note.the-variants as note
-use Rattle.receipt.specs.Lines.{fits}
+use Rattle.receipt.specs.Lines.{adjustFits, fits}
 use Rattle.receipt.specs.Receipts.{emptyReceipt, amountOf, notPermitted, overflows, withLine, isCash}
+use Rattle.shares.specs.Receipts.{notAdjusted, adjustOver, withAdjust}
 use Rattle.books.specs.Books.{textOpen, anyOpen, withReceipt, withDrawer}
 use Rattle.books.specs.Groups.{at}
 use Rattle.books.specs.Rates.{rateIn, isEnabled}
@@ -19,7 +20,7 @@ use Rattle.books.specs.declared.Opened.the-variants as opened
 use Rattle.books.specs.declared.Shown.{Shown}
 use Rattle.books.specs.declared.Shown.the-variants as shown
 use Rattle.rules.specs.declared.views.View.{View}
-use Rattle.rules.specs.declared.views.View.the-variants.{Opens, Sells, Pays, Closes, Cancels, OpensText, ClosesText, Clears, Puts, Takes, Asks}
+use Rattle.rules.specs.declared.views.View.the-variants.{Opens, Sells, Adjusts, Pays, Closes, Cancels, OpensText, ClosesText, Clears, Puts, Takes, Asks}
 use Rattle.rules.specs.Reasons.{isPrice, tenderHolds, full, dayOver, memoryOver, manyOpened, noneOpen, unmet, owed, tendered}
 use Rattle.rules.specs.Effects.{newReceipt, payment, paidInto, takenIn, newText, cleared}
 
@@ -62,6 +63,17 @@ ruleOf b m (Sells s) =
       after = withReceipt b (b .opened) (withLine (b .receipt) s m);
       shows = shown.Nothing;
       note = noteOf s (amountOf s m);
+    }
+-- PROTOCOL 5.5, 8.7: 51 with a Percent or an Abs. For 3: none open, a 53 done, a total of zero, an Abs off above it. For 4: the total, or a group's day sum with
+-- this receipt, would be too large (8.2). It is no line; it shows the sums afterwards
+ruleOf b m (Adjusts a) =
+    record {
+      one = not (adjustFits false a);
+      three = noneOpen b || notAdjusted (b .receipt) a;
+      four = adjustOver (b .receipt) a (b .day);
+      after = withReceipt b (b .opened) (withAdjust (b .receipt) a);
+      shows = shown.Subtotal;
+      note = note.Nothing;
     }
 -- PROTOCOL 5.6: 53. For 3: none open, paid in full, not cash and above the rest. For 4: the mode's register, or cash, would pass 12 digits; change is left
 -- out. It shows what is left to pay, or the change

@@ -1,25 +1,35 @@
 -- PROTOCOL 5.1: what each command is to the books, in the rule book's order: the one table over the seventeen kinds. A command that changes nothing in the
 -- books `Asks`: all its rule says is what has to be open for it, and what its answer shows.
 use mathlib.Core.Bool.{true, false}
+use Rattle.kinds.specs.declared.Adjust.{Adjust}
+use Rattle.kinds.specs.declared.Adjust.the-variants.{Nothing, PercentMore, PercentLess, AmountMore, AmountLess}
 use Rattle.kinds.specs.declared.Command.{Command}
 use Rattle.kinds.specs.declared.Command.the-variants.{OpenText, CloseText, PrintText, Open, Sell, Subtotal, Pay, Close, Cancel, Sums, Closing, Drawer, Status, Rates, ShowText, ChangePassword, ChangeName}
 use Rattle.kinds.specs.declared.Sale.{Sale}
 use Rattle.kinds.specs.declared.Service.the-variants.{Report, In, Out}
 use Rattle.books.specs.declared.Shown.the-variants as shown
 use Rattle.rules.specs.declared.views.View.{View}
-use Rattle.rules.specs.declared.views.View.the-variants.{Opens, Sells, Pays, Closes, Cancels, OpensText, ClosesText, Clears, Puts, Takes, Asks}
+use Rattle.rules.specs.declared.views.View.the-variants.{Opens, Sells, Adjusts, Pays, Closes, Cancels, OpensText, ClosesText, Clears, Puts, Takes, Asks}
 use Rattle.rules.specs.declared.views.When.the-variants.{Always, FiscalIsOpen, TextIsOpen, NoneIsOpen}
 
 -- always permitted, with an answer of no data
 abbrev pub asksNothing : View
 asksNothing = Asks Always shown.Nothing
 
+-- PROTOCOL 5.5: 51 without Percent and Abs asks for the total and the eight groups of an open fiscal receipt
+abbrev pub subtotalView : Adjust → View
+subtotalView Nothing = Asks FiscalIsOpen shown.Subtotal
+subtotalView (PercentMore p) = Adjusts (PercentMore p)
+subtotalView (PercentLess p) = Adjusts (PercentLess p)
+subtotalView (AmountMore a) = Adjusts (AmountMore a)
+subtotalView (AmountLess a) = Adjusts (AmountLess a)
+
 abbrev pub viewOf : Command → View
 -- PROTOCOL 5.3, 5.4: 48 and 49
 viewOf (Open op password till) = Opens
 viewOf (Sell s) = Sells s
--- PROTOCOL 5.5: 51, the total and the eight groups of an open fiscal receipt
-viewOf (Subtotal print show) = Asks FiscalIsOpen shown.Subtotal
+-- PROTOCOL 5.5: 51
+viewOf (Subtotal print show adjust) = subtotalView adjust
 -- PROTOCOL 5.6, 5.7, 5.8: 53, 56 and 60
 viewOf (Pay p) = Pays p
 viewOf Close = Closes
@@ -52,6 +62,7 @@ module _ {A : Type 0} (none : A) where
   abbrev pub ofSale : (Sale → A) → View → A
   ofSale f Opens = none
   ofSale f (Sells s) = f s
+  ofSale f (Adjusts a) = none
   ofSale f (Pays p) = none
   ofSale f Closes = none
   ofSale f Cancels = none

@@ -17,6 +17,7 @@ pub fn search_for(books: Books, view: View) -> Search
     match view {
         View::Opens => no_search(),
         View::Sells(s) => search_back(books, s),
+        View::Adjusts(_) => no_search(),
         View::Pays(_) => no_search(),
         View::Closes => no_search(),
         View::Cancels => no_search(),

@@ -1,12 +1,13 @@
 // What each command is to the books (PROTOCOL 5.1): the one table over the seventeen kinds.
 use books::Shown;
+use kinds::Adjust;
 use kinds::Command;
 use kinds::Payment;
 use kinds::Sale;
 use kinds::Service;
 ghost use mathlib.Core.Path.{_≡_};
 ghost use Rattle.kinds.specs.declared.Command.the-variants.{Sums, Closing, Drawer};
-ghost use Rattle.rules.specs.Views.{asksNothing, viewOf};
+ghost use Rattle.rules.specs.Views.{asksNothing, subtotalView, viewOf};
 
 // What has to be open for a command that only asks (PROTOCOL 5.2).
 pub enum When {
@@ -16,10 +17,11 @@ pub enum When {
     NoneIsOpen,
 }
 
-// The ten ways to change the books, and one for every command that changes nothing in them.
+// The eleven ways to change the books, and one for every command that changes nothing in them.
 pub enum View {
     Opens,
     Sells(Sale),
+    Adjusts(Adjust),
     Pays(Payment),
     Closes,
     Cancels,
@@ -48,10 +50,11 @@ pub fn view_of(command: Command) -> View
             till: _,
         } => View::Opens,
         Command::Sell(s) => View::Sells(s),
-        Command::Subtotal { print: _, show: _ } => View::Asks {
-            when: When::FiscalIsOpen,
-            shown: Shown::Subtotal,
-        },
+        Command::Subtotal {
+            print: _,
+            show: _,
+            adjust,
+        } => of_subtotal(adjust),
         Command::Pay(p) => View::Pays(p),
         Command::Close => View::Closes,
         Command::Cancel => View::Cancels,
@@ -83,6 +86,22 @@ fn ask_nothing() -> View
     View::Asks {
         when: When::Always,
         shown: Shown::Nothing,
+    }
+}
+
+// 51 changes the whole receipt, or only asks.
+fn of_subtotal(adjust: Adjust) -> View
+    ensures { λ r. ⌜ r ≡ subtotalView adjust ⌝ }
+{
+    match adjust {
+        Adjust::Nothing => View::Asks {
+            when: When::FiscalIsOpen,
+            shown: Shown::Subtotal,
+        },
+        Adjust::PercentMore(_) => View::Adjusts(adjust),
+        Adjust::PercentLess(_) => View::Adjusts(adjust),
+        Adjust::AmountMore(_) => View::Adjusts(adjust),
+        Adjust::AmountLess(_) => View::Adjusts(adjust),
     }
 }
 
