@@ -37,10 +37,15 @@ returns-10 c = c .no-search9 .ensures ∙ sym (ap (searchFor (c .before .before 
 returns-11 : tie.Need-returns-11
 returns-11 c = c .no-search10 .ensures ∙ sym (ap (searchFor (c .before .before .before .args .books)) (c .before .enum-told10 .given .1))
 
+returns-12 : tie.Need-returns-12
+returns-12 c = c .no-search11 .ensures ∙ sym (ap (searchFor (c .before .before .before .args .books)) (c .before .enum-told11 .given .1))
+
 pub search-for-spec : {M : Type 1} → statement M
 search-for-spec =
     tie.close
     (tie.spec
+    (λ c. search needs)
+    (λ c κs. search needs)
     (λ c. search needs)
     (λ c κs. search needs)
     (λ c. search needs)
@@ -73,4 +78,5 @@ search-for-spec =
     returns-8
     returns-9
     returns-10
-    returns-11)
+    returns-11
+    returns-12)
