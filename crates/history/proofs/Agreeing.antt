@@ -6,12 +6,16 @@ use Prim.Native.Nat.{ℕ, _+_, _-_, _^_, _<_}
 use native.Mathlib.Omega.{arith}
 use lib.ListN.{length, replicate}
 use borrow.Author.Tests.{eq-eqb, ne-eqb}
+use Rattle.kinds.specs.declared.Adjust.{Adjust}
 use Rattle.kinds.specs.declared.Mode.{Mode}
 use Rattle.kinds.specs.declared.Mode.the-variants.{Cash, N, C, D, B}
 use Rattle.kinds.specs.declared.Sale.{Sale}
 use Rattle.sheet.specs.declared.Match.{Match}
 use Rattle.receipt.specs.Receipts.{emptyReceipt, amountOf, groupAfter, withLine}
 use Rattle.receipt.proofs.Adjusting.{fits-parts}
+use Rattle.shares.specs.Shares.{sizeOf, isLess, sumAfter}
+use Rattle.shares.specs.Receipts.{withAdjust}
+use Rattle.shares.proofs.Laws.{same-after}
 use Rattle.books.specs.Groups.{eight, at, sum}
 use Rattle.books.specs.Registers.{place}
 use Rattle.books.specs.Sound.{withReceiptOf}
@@ -26,7 +30,7 @@ use Rattle.rules.specs.declared.views.View.the-variants.{Opens, Sells, Adjusts,
 use Rattle.rules.proofs.Reasoning.{takes-within}
 use Rattle.history.specs.Agrees.{ReceiptAgrees, Says}
 use Rattle.history.specs.Digits.{leftOf}
-use Rattle.history.specs.History.{Figures, noneTold, withSale, after}
+use Rattle.history.specs.History.{Figures, noneTold, totalIn, withSale, withAdjustment, after}
 use Rattle.history.specs.Reached.{Reached, Receipted}
 use Rattle.history.specs.Sold.{amountTold}
 use Rattle.history.proofs.Lists.{set-other, same-eight}
@@ -91,6 +95,27 @@ module _ (f : Figures) (b : Books) (h : Says f b) (m : Match) (s : Sale) (told :
         settled = h .receipt .settled;
       }
 
+-- 51 with a Percent or an Abs: the same shares, since groups and total are the history's
+module _ (f : Figures) (b : Books) (h : Says f b) (a : Adjust) where
+  adjust-groups : (g : ℕ) → g < 8 → at (withAdjust (b .receipt) a .groups) g ≡ withAdjustment (f .receipt) a .sums g
+  adjust-groups g lt =
+      at-eight (sumAfter a (b .receipt .total) (at (b .receipt .groups))) g lt
+      ∙ ap (λ t. sumAfter a t (at (b .receipt .groups)) g) (h .receipt .total)
+      ∙ same-after (at (b .receipt .groups)) (f .receipt .sums) (h .receipt .groups) (isLess a) (sizeOf (totalIn (f .receipt)) a) (totalIn (f .receipt)) g lt
+
+  adjusted : Receipted (withAdjust (b .receipt) a) → ReceiptAgrees (withAdjustment (f .receipt) a) (withAdjust (b .receipt) a)
+  adjusted new =
+      let total = new .total ∙ ap sum (same-eight (at (withAdjust (b .receipt) a .groups)) (withAdjustment (f .receipt) a .sums) adjust-groups) in
+      record {
+        groups = adjust-groups;
+        total = total;
+        lines = h .receipt .lines;
+        paid = h .receipt .paid;
+        rest = rw (total, h .receipt .paid);
+        tried = h .receipt .tried;
+        settled = h .receipt .settled;
+      }
+
 -- 69
 abbrev closedWith : Memory → List ℕ → Memory
 closedWith m sums = record { closings = m .closings + 1; total = m .total + sum sums }
@@ -112,6 +137,16 @@ agreeing f b h k m (Sells s) told free small =
     record {
       opened = h .opened;
       receipt = line-sold f b h m s (ap (amountOf s) told) (k .receipt) (fits-parts s (line-done b m s free .fields) .0) (reaching b k m (Sells s) free .receipt);
+      day = h .day;
+      registers = h .registers;
+      drawer = h .drawer;
+      counters = h .counters;
+      memory = h .memory;
+    }
+agreeing f b h k m (Adjusts a) told free small =
+    record {
+      opened = h .opened;
+      receipt = adjusted f b h a (reaching b k m (Adjusts a) free .receipt);
       day = h .day;
       registers = h .registers;
       drawer = h .drawer;

@@ -64,6 +64,7 @@ left-fits b h m (Pays p) i =
 left-fits b h m (Asks when shown) i = omega (arith, i .rest)
 left-fits b h m Opens i = omega arith
 left-fits b h m (Sells s) i = omega arith
+left-fits b h m (Adjusts a) i = omega arith
 left-fits b h m Closes i = omega arith
 left-fits b h m Cancels i = omega arith
 left-fits b h m OpensText i = omega arith

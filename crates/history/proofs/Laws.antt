@@ -54,6 +54,7 @@ opening-empties-the-sheet s z =
 no-note : (b : Books) (m : Match) (v : View) → does 48 v ≡ false → does 49 v ≡ false → ruleOf b m v .note ≡ note.Nothing
 no-note b m Opens e f = absurd (false≢true (sym e))
 no-note b m (Sells s) e f = absurd (false≢true (sym f))
+no-note b m (Adjusts a) e f = refl
 no-note b m (Pays p) e f = refl
 no-note b m Closes e f = refl
 no-note b m Cancels e f = refl

@@ -6,6 +6,7 @@ use native.Mathlib.Omega.{arith}
 use lib.Dec.{ltb}
 use lib.ListN.{length, set, length-set}
 use borrow.Author.Tests.{leb-true, lt-leb, le-ltb, not-false}
+use Rattle.kinds.specs.declared.Adjust.{Adjust}
 use Rattle.kinds.specs.declared.Command.{Command}
 use Rattle.kinds.specs.declared.Mode.{Mode}
 use Rattle.kinds.specs.declared.Payment.{Payment}
@@ -14,6 +15,8 @@ use Rattle.sheet.specs.declared.Match.{Match}
 use Rattle.receipt.specs.Lines.{productOf, finishedOf}
 use Rattle.receipt.specs.Receipts.{emptyReceipt, groupAfter, withLine}
 use Rattle.receipt.proofs.Adjusting.{fits-parts}
+use Rattle.shares.specs.Receipts.{withAdjust}
+use Rattle.shares.proofs.Laws.{the-receipt-stays-summed}
 use Rattle.books.specs.Books.{freshBooks, fiscalOpen, textOpen, anyOpen, withReceipt, withDrawer, withRegisters}
 use Rattle.books.specs.Groups.{eight, at, sum}
 use Rattle.books.specs.Registers.{place, registerOf, raisedBy}
@@ -34,7 +37,7 @@ use Rattle.deeds.specs.declared.Deed.{Deed}
 use Rattle.history.specs.Reached.{Reached, Receipted}
 use Rattle.history.proofs.Lists.{sum-eight-set}
 use Rattle.history.proofs.Soundness.{fresh-is-sound, step-sound}
-use Rattle.history.proofs.Steps.{Free, Step, LineDone, refused, goes, line-done, payment-done, taken}
+use Rattle.history.proofs.Steps.{Free, Step, LineDone, AdjustDone, refused, goes, line-done, adjust-done, payment-done, taken}
 
 pub empty-receipted : Receipted emptyReceipt
 empty-receipted =
@@ -65,6 +68,19 @@ module _ (b : Books) (h : Receipted (b .receipt)) where
         few-lines = omega (arith, l .few);
         not-overpaid = omega (arith, h .unpaid (l .untried));
         paid-up = λ e. absurd (false≢true (sym (h .unsettled (l .untried)) ∙ e));
+        unpaid = h .unpaid;
+        unsettled = h .unsettled;
+      }
+
+  pub adjust-receipted : (a : Adjust) → AdjustDone b a → Receipted (withAdjust (b .receipt) a)
+  adjust-receipted a d =
+      let r = b .receipt in
+      record {
+        eight-groups = refl;
+        total = the-receipt-stays-summed r a (d .fields) (d .permitted) (d .summed);
+        few-lines = h .few-lines;
+        not-overpaid = omega (arith, h .unpaid (d .untried));
+        paid-up = λ e. absurd (false≢true (sym (h .unsettled (d .untried)) ∙ e));
         unpaid = h .unpaid;
         unsettled = h .unsettled;
       }
@@ -118,6 +134,15 @@ reaching b h m (Sells s) f =
       eight-sums = h .eight-sums;
       four-registers = h .four-registers;
       blank = never (b .opened) (l .isOpen);
+    }
+reaching b h m (Adjusts a) f =
+    let d = adjust-done b m a f in
+    record {
+      fits = step-sound b (h .fits) m (Adjusts a) f;
+      receipt = adjust-receipted b (h .receipt) a d;
+      eight-sums = h .eight-sums;
+      four-registers = h .four-registers;
+      blank = never (b .opened) (d .isOpen);
     }
 reaching b h m (Pays p) f =
     raised-reached (withReceipt b (b .opened) (payment b p .receipt)) (p .mode) (min (tendered b p) (owed b)) (step-sound b (h .fits) m (Pays p) f)

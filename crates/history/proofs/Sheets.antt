@@ -163,6 +163,7 @@ module _ (es : List Entry) (s : Store) (k : Reached (s .books)) (h : Agrees es s
   unfolding newest
   match-for Opens = refl
   match-for (Sells x) = match-told (s .sheet) lines x (searched (s .books)) all-searched (h .lines)
+  match-for (Adjusts a) = refl
   match-for (Pays p) = refl
   match-for Closes = refl
   match-for Cancels = refl
@@ -187,6 +188,7 @@ module _ (es : List Entry) (s : Store) (k : Reached (s .books)) (h : Agrees es s
       → Holds (noted (s .sheet) (placeFor s v) (s .books .receipt .lines) (ruleOf (s .books) (matchFor s v) v .note)) (receiptAfter v shown (figuresOf es .receipt) .sold)
   sheet-kept Opens shown free = tt
   sheet-kept (Sells x) shown free = line-kept x free
+  sheet-kept (Adjusts a) shown free = h .lines
   sheet-kept (Pays p) shown free = h .lines
   sheet-kept Closes shown free = tt
   sheet-kept Cancels shown free = tt
@@ -206,6 +208,7 @@ pub count-kept : (r : ReceiptTold) → length (r .sold) ≡ r .lines → (v : Vi
     → length (receiptAfter v shown r .sold) ≡ receiptAfter v shown r .lines
 count-kept r e Opens shown = refl
 count-kept r e (Sells x) shown = omega (arith, count-more (x .minus) x (r .sold))
+count-kept r e (Adjusts a) shown = e
 count-kept r e (Pays p) shown = e
 count-kept r e Closes shown = refl
 count-kept r e Cancels shown = refl

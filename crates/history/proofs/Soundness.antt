@@ -5,12 +5,15 @@ use Prim.Native.Nat.{ℕ, _+_, _≤_, _<_, min}
 use native.Mathlib.Omega.{arith}
 use lib.Dec.{ltb}
 use lib.ListN.{set}
+use Rattle.kinds.specs.declared.Adjust.{Adjust}
 use Rattle.kinds.specs.declared.Command.{Command}
 use Rattle.kinds.specs.declared.Mode.{Mode}
 use Rattle.kinds.specs.declared.Sale.{Sale}
 use Rattle.sheet.specs.declared.Match.{Match}
 use Rattle.receipt.specs.Receipts.{emptyReceipt, groupAfter, withLine}
 use Rattle.receipt.specs.declared.Receipt.{Receipt}
+use Rattle.shares.specs.Shares.{sumAfter}
+use Rattle.shares.specs.Receipts.{withAdjust}
 use Rattle.books.specs.Books.{freshBooks, withReceipt, withCounters, withDrawer, withRegisters}
 use Rattle.books.specs.Groups.{eight, at, sum}
 use Rattle.books.specs.Rates.{capacityOf}
@@ -32,7 +35,7 @@ use Rattle.rules.proofs.Reasoning.{few-texts, few-receipts, puts-within, fits-s
 use Rattle.deeds.specs.Deeds.{carriedOut}
 use Rattle.deeds.specs.declared.Deed.{Deed}
 use Rattle.history.proofs.Lists.{set-each}
-use Rattle.history.proofs.Steps.{Free, Step, LineDone, refused, goes, line-done, payment-done, room-left, taken}
+use Rattle.history.proofs.Steps.{Free, Step, LineDone, AdjustDone, refused, goes, line-done, adjust-done, payment-done, room-left, taken}
 
 module _ (b : Books) (k : Kept b) where
   -- a line
@@ -42,6 +45,12 @@ module _ (b : Books) (k : Kept b) where
       set-each (λ g x. g < 8 → at (b .day) g + x ≤ 999999999999) (b .receipt .groups) (s .group) (groupAfter (b .receipt) s m)
       (λ lt. l .sum)
       (λ g lt. within-eight (withReceiptOf b) (k .groups) g lt)
+
+  -- a Percent or an Abs on the receipt
+  adjust-in : (a : Adjust) → AdjustDone b a → (g : ℕ) → g < 8 → at (b .day) g + at (withAdjust (b .receipt) a .groups) g ≤ 999999999999
+  adjust-in a d g lt =
+      let after = sumAfter a (b .receipt .total) (at (b .receipt .groups)) in
+      omega (arith, at-eight after g lt, within-eight (λ i. at (b .day) i + after i) (d .days) g lt)
 
   -- without the receipt, and with one on which nothing stands
   day-in : (g : ℕ) → g < 8 → at (b .day) g ≤ 999999999999
@@ -121,6 +130,9 @@ staying b k m Opens f =
 staying b k m (Sells s) f =
     let l = line-done b m s f in
     receipt-kept b k (b .opened) (withLine (b .receipt) s m) (line-in b k m s l) (l .total)
+staying b k m (Adjusts a) f =
+    let d = adjust-done b m a f in
+    receipt-kept b k (b .opened) (withAdjust (b .receipt) a) (adjust-in b k a d) (d .total)
 staying b k m (Pays p) f =
     let t = payment b p .receipt in
     raised-kept (withReceipt b (b .opened) t) (receipt-kept b k (b .opened) t (within-eight (withReceiptOf b) (k .groups)) (k .total)) (p .mode) (min (tendered b p) (owed b)) (payment-done b m p f .room)

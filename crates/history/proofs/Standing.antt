@@ -7,53 +7,78 @@ use Prim.Native.Nat.{ℕ, _+_, _-_, _≤_, _<_}
 use native.Mathlib.Omega.{arith}
 use lib.Dec.{ltb, eqb}
 use lib.ListN.{length}
-use borrow.Author.Tests.{ltb-true, ltb-false, eq-eqb, not-true}
+use borrow.Author.Tests.{ltb-true, ltb-false, eq-eqb, eqb-true, not-true}
 use Rattle.basics.proofs.Tests.{both}
+use Rattle.kinds.specs.declared.Adjust.{Adjust}
 use Rattle.kinds.specs.declared.Sale.{Sale}
 use Rattle.sheet.specs.Sheet.{lineOf, noMatch}
 use Rattle.sheet.specs.declared.Line.{Line}
 use Rattle.sheet.specs.declared.Match.{Match}
 use Rattle.receipt.specs.Lines.{productOf, finishedOf}
+use Rattle.shares.specs.Shares.{isLess, changedBy}
 use Rattle.rules.specs.Views.{ofSale}
 use Rattle.rules.specs.declared.views.View.{View}
 use Rattle.rules.specs.declared.views.View.the-variants.{Opens, Sells, Adjusts, Pays, Closes, Cancels, OpensText, ClosesText, Clears, Puts, Takes, Asks}
-use Rattle.history.specs.Entries.{Entry, didOf}
+use Rattle.history.specs.Entries.{Entry, didOf, ofAdjust}
 use Rattle.history.specs.History.{ReceiptTold, isAnother, receiptAfter, figuresOf}
 use Rattle.history.specs.Sold.{isLike, newestLike, withoutNewest, amountTold, soldAfter}
-use Rattle.history.specs.TakingBack.{linesIn, lineAt, sameReceipt, AddedBy, by-newest, by-earlier, TookBack, standing, worthOf, linesWhere, linesAdded, linesOff}
+use Rattle.history.specs.TakingBack.{linesIn, lineAt, sameReceipt, AddedBy, by-newest, by-earlier, TookBack, standing, worthOf, shareTold, discountTold, surchargeTold, sharesWhere, discountsIn, surchargesIn, linesWhere, linesAdded, linesOff}
 use Rattle.history.proofs.Places.{at-newest, at-older, like-parts, found-in, SameOrBack, same-or-back, one-fewer, worth-less}
 use Rattle.history.proofs.Sheets.{as-many, count-more}
 
--- what a line makes of a group
-module _ (x : Sale) (ls : List Line) (g sum : ℕ) where
+-- what a line makes of a group; `off` are its discounts, `on` its surcharges
+module _ (x : Sale) (ls : List Line) (g sum off on : ℕ) where
   abbrev amountIf : Bool → ℕ
   amountIf minus = cond minus (cond {A = Match} minus (newestLike x ls) noMatch .amount) (finishedOf (productOf x) (x .adjust))
 
-  line-worth : (minus same : Bool) → sum ≡ worthOf g ls → worthOf g (withoutNewest x ls) + cond same (newestLike x ls .amount) 0 ≡ worthOf g ls
-      → sum + cond (same && not minus) (amountIf minus) 0 - cond (same && minus) (amountIf minus) 0
-      ≡ cond (not minus && same) (amountIf minus) 0 + worthOf g (cond minus (withoutNewest x ls) ls)
-  line-worth true true e w = omega arith
-  line-worth true false e w = omega arith
-  line-worth false true e w = omega arith
-  line-worth false false e w = omega arith
+  line-worth : (minus same : Bool) → sum + off ≡ worthOf g ls + on → worthOf g (withoutNewest x ls) + cond same (newestLike x ls .amount) 0 ≡ worthOf g ls
+      → (minus ≡ true → same ≡ true → newestLike x ls .amount ≤ sum)
+      → sum + cond (same && not minus) (amountIf minus) 0 - cond (same && minus) (amountIf minus) 0 + (off + 0)
+      ≡ cond (not minus && same) (amountIf minus) 0 + worthOf g (cond minus (withoutNewest x ls) ls) + (on + 0)
+  line-worth true true e w covered = omega (arith, covered refl refl)
+  line-worth true false e w covered = omega arith
+  line-worth false true e w covered = omega arith
+  line-worth false false e w covered = omega arith
 
-sums-after : (r : ReceiptTold) (g : ℕ) → r .sums g ≡ worthOf g (r .sold) → (v : View) (shown : List ℕ)
-    → receiptAfter v shown r .sums g ≡ worthOf g (receiptAfter v shown r .sold)
-sums-after r g e Opens shown = refl
-sums-after r g e (Sells x) shown = line-worth x (r .sold) g (r .sums g) (x .minus) (eqb (x .group) g) e (worth-less x g (r .sold))
-sums-after r g e (Pays p) shown = e
-sums-after r g e Closes shown = refl
-sums-after r g e Cancels shown = refl
-sums-after r g e OpensText shown = e
-sums-after r g e ClosesText shown = e
-sums-after r g e Clears shown = e
-sums-after r g e (Puts n) shown = e
-sums-after r g e (Takes n) shown = e
-sums-after r g e (Asks when shown′) shown = e
+-- and a Percent or an Abs on the receipt
+adjust-worth : (less : Bool) (sum share worth off on : ℕ) → sum + off ≡ worth + on → (less ≡ true → share ≤ sum)
+    → changedBy less sum share + (off + cond less share 0) ≡ worth + (on + cond less 0 share)
+adjust-worth true sum share worth off on e covered = omega (arith, covered refl)
+adjust-worth false sum share worth off on e covered = omega arith
 
-pub sums-stand : (es : List Entry) (g : ℕ) → figuresOf es .receipt .sums g ≡ worthOf g (linesIn es)
-sums-stand [] g = refl
-sums-stand (e ∷ es) g = sums-after (figuresOf es .receipt) g (sums-stand es g) (didOf e) (e .shown)
+-- a group with its discounts is what its lines that stand come to with its surcharges
+abbrev sharesAfter : (ReceiptTold → Adjust → ℕ) → List Entry → View → ℕ
+sharesAfter f es v = cond (isAnother v) 0 (sharesWhere f es + ofAdjust 0 (f (figuresOf es .receipt)) v)
+
+abbrev pub Balanced : ℕ → List Entry → View → List ℕ → Type 0
+Balanced g es v shown =
+    receiptAfter v shown (figuresOf es .receipt) .sums g + sharesAfter (discountTold g) es v
+    ≡ worthOf g (receiptAfter v shown (figuresOf es .receipt) .sold) + sharesAfter (surchargeTold g) es v
+
+-- what is known of a line with `-`, and of a discount, that is done: it is covered
+pub record Covered (r : ReceiptTold) (v : View) : Type 0 where
+  pub line : (x : Sale) → v ≡ Sells x → x .minus ≡ true → newestLike x (r .sold) .amount ≤ r .sums (x .group)
+  pub discount : (a : Adjust) → v ≡ Adjusts a → isLess a ≡ true → (g : ℕ) → shareTold g r a ≤ r .sums g
+
+pub balanced : (es : List Entry) (g : ℕ) → figuresOf es .receipt .sums g + discountsIn g es ≡ worthOf g (linesIn es) + surchargesIn g es
+    → (v : View) (shown : List ℕ) → Covered (figuresOf es .receipt) v → Balanced g es v shown
+balanced es g e Opens shown c = refl
+balanced es g e (Sells x) shown c =
+    let r = figuresOf es .receipt in
+    line-worth x (r .sold) g (r .sums g) (discountsIn g es) (surchargesIn g es) (x .minus) (eqb (x .group) g) e (worth-less x g (r .sold))
+    (λ minus same. subst (λ i. newestLike x (r .sold) .amount ≤ r .sums i) (eqb-true (x .group) g same) (c .line x refl minus))
+balanced es g e (Adjusts a) shown c =
+    let r = figuresOf es .receipt in
+    adjust-worth (isLess a) (r .sums g) (shareTold g r a) (worthOf g (r .sold)) (discountsIn g es) (surchargesIn g es) e (λ less. c .discount a refl less g)
+balanced es g e (Pays p) shown c = omega arith
+balanced es g e Closes shown c = refl
+balanced es g e Cancels shown c = refl
+balanced es g e OpensText shown c = omega arith
+balanced es g e ClosesText shown c = omega arith
+balanced es g e Clears shown c = omega arith
+balanced es g e (Puts n) shown c = omega arith
+balanced es g e (Takes n) shown c = omega arith
+balanced es g e (Asks when shown′) shown c = omega arith
 
 -- a line found is among those that stand
 pub worth-covers : (x : Sale) (ls : List Line) (minus : Bool) → cond {A = Match} minus (newestLike x ls) noMatch .amount ≤ worthOf (x .group) ls
@@ -74,6 +99,7 @@ line-after r (Sells x) shown e i lt = (omega (arith, count-more (x .minus) x (r 
     go : (minus : Bool) → SameOrBack (lineAt i (cond minus (withoutNewest x (r .sold)) (r .sold))) (lineAt i (r .sold))
     go true = same-or-back x (r .sold) i
     go false = inl refl
+line-after r (Adjusts a) shown e i lt = (lt, inl refl)
 line-after r (Pays p) shown e i lt = (lt, inl refl)
 line-after r Closes shown e i lt = absurd (false≢true (sym e))
 line-after r Cancels shown e i lt = absurd (false≢true (sym e))
@@ -128,6 +154,7 @@ module _ (e : Entry) (es : List Entry) (older : (i : ℕ) → i < length (linesI
   added-by : (v : View) → didOf e ≡ v → (i : ℕ) → i < length (now v) → lineAt i (now v) .stands ≡ true → AddedBy (lineAt i (now v)) (e ∷ es)
   added-by Opens is i lt stands = absurd (omega arith)
   added-by (Sells x) is i lt stands = sold-line x is i lt stands
+  added-by (Adjusts a) is i lt stands = stays-added (Adjusts a) is refl i lt stands
   added-by (Pays p) is i lt stands = stays-added (Pays p) is refl i lt stands
   added-by Closes is i lt stands = absurd (omega arith)
   added-by Cancels is i lt stands = absurd (omega arith)
@@ -147,6 +174,9 @@ module _ (es : List Entry) (e : Entry) (x : Sale) (is : didOf e ≡ Sells x) (mi
   abbrev amount : ℕ
   amount = amountTold (linesIn es) x
 
+  amount-found : amount ≡ newestLike x (linesIn es) .amount
+  amount-found = ap (λ t. cond t (cond {A = Match} t (newestLike x (linesIn es)) noMatch .amount) (finishedOf (productOf x) (x .adjust))) minus
+
   lines-then : linesIn (e ∷ es) ≡ lineOf x amount ∷ withoutNewest x (linesIn es)
   lines-then =
       ap (λ v. receiptAfter v (e .shown) (figuresOf es .receipt) .sold) is ∙ ap (λ t. lineOf x amount ∷ cond t (withoutNewest x (linesIn es)) (linesIn es)) minus
@@ -155,13 +185,21 @@ module _ (es : List Entry) (e : Entry) (x : Sale) (is : didOf e ≡ Sells x) (mi
   place-then i lt =
       ap (lineAt i) lines-then ∙ at-older (lineOf x amount) (withoutNewest x (linesIn es)) i (λ z. omega (arith, z, as-many x (linesIn es)))
 
-  -- the new line does not stand
-  worth-then : (g : ℕ) → worthOf g (linesIn (e ∷ es)) ≡ worthOf g (withoutNewest x (linesIn es))
-  worth-then g =
-      ap (worthOf g) lines-then ∙ ap (λ t. cond (not t && eqb (x .group) g) amount 0 + worthOf g (withoutNewest x (linesIn es))) minus ∙ omega arith
+  -- its group, where it is this one and where not
+  sum-then : (g : ℕ) → (same : Bool) → (same ≡ true → newestLike x (linesIn es) .amount ≤ figuresOf es .receipt .sums g)
+      → figuresOf es .receipt .sums g + cond (same && not (x .minus)) amount 0 - cond (same && x .minus) amount 0 + cond same (newestLike x (linesIn es) .amount) 0
+      ≡ figuresOf es .receipt .sums g
+  sum-then g true covered = omega (arith, covered refl, amount-found, ap (λ t. cond (not t) amount 0) minus, ap (λ t. cond t amount 0) minus)
+  sum-then g false covered = omega arith
 
-  pub took : newestLike x (linesIn es) .found ≡ true → TookBack x es (e ∷ es)
-  took found =
+  amount-then : newestLike x (linesIn es) .amount ≤ figuresOf es .receipt .sums (x .group) → (g : ℕ)
+      → figuresOf (e ∷ es) .receipt .sums g + cond (eqb (x .group) g) (newestLike x (linesIn es) .amount) 0 ≡ figuresOf es .receipt .sums g
+  amount-then covered g =
+      ap (λ v. receiptAfter v (e .shown) (figuresOf es .receipt) .sums g + cond (eqb (x .group) g) (newestLike x (linesIn es) .amount) 0) is
+      ∙ sum-then g (eqb (x .group) g) (λ same. subst (λ i. newestLike x (linesIn es) .amount ≤ figuresOf es .receipt .sums i) (eqb-true (x .group) g same) covered)
+
+  pub took : newestLike x (linesIn es) .found ≡ true → newestLike x (linesIn es) .amount ≤ figuresOf es .receipt .sums (x .group) → TookBack x es (e ∷ es)
+  took found covered =
       let f = found-in x (linesIn es) found in
       let like = like-parts (lineAt (f .place) (linesIn es)) x (f .like) in
       record {
@@ -175,7 +213,7 @@ module _ (es : List Entry) (e : Entry) (x : Sale) (is : didOf e ≡ Sells x) (mi
         last = f .last;
         marked = place-then (f .place) (f .among) ∙ f .marked;
         others = λ i lt z. place-then i lt ∙ f .others i lt z;
-        off = λ g. omega (arith, sums-stand (e ∷ es) g, sums-stand es g, worth-then g, worth-less x g (linesIn es), ap (λ n. cond (eqb (x .group) g) n 0) (f .amount));
+        off = λ g. ap (λ n. figuresOf (e ∷ es) .receipt .sums g + cond (eqb (x .group) g) n 0) (sym (f .amount)) ∙ amount-then covered g;
       }
 
 -- one that is like no line finds none
@@ -203,6 +241,7 @@ pub counted : (es : List Entry) → standing (linesIn es) + linesOff es ≡ line
     → ((x : Sale) → v ≡ Sells x → x .minus ≡ true → newestLike x (linesIn es) .found ≡ true) → Counted es v shown
 counted es e Opens shown found = refl
 counted es e (Sells x) shown found = one-more x (linesIn es) (linesOff es) (linesAdded es) (x .minus) e (found x refl)
+counted es e (Adjusts a) shown found = omega arith
 counted es e (Pays p) shown found = omega arith
 counted es e Closes shown found = refl
 counted es e Cancels shown found = refl

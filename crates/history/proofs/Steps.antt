@@ -3,24 +3,29 @@ use mathlib.Core.Path.{_≡_, refl}
 use mathlib.Core.Bool.{Bool, true, false, cond, not, _&&_, _||_, false≢true}
 use Prim.Native.Nat.{ℕ, suc, _+_, _≤_, _<_, min}
 use native.Mathlib.Omega.{arith}
-use lib.Dec.{leb, ltb}
+use lib.Dec.{leb, ltb, eqb}
 use borrow.Author.Tests.{ltb-false, leb-false, not-false}
+use Rattle.text.specs.Parts.{every}
+use Rattle.kinds.specs.declared.Adjust.{Adjust}
 use Rattle.kinds.specs.declared.Command.{Command}
 use Rattle.kinds.specs.declared.Payment.{Payment}
 use Rattle.kinds.specs.declared.Sale.{Sale}
 use Rattle.sheet.specs.declared.Match.{Match}
-use Rattle.receipt.specs.Lines.{productOf, tooMuchOff, fits}
+use Rattle.receipt.specs.Lines.{productOf, finishedOf, tooMuchOff, adjustFits, fits}
 use Rattle.receipt.specs.Receipts.{amountOf, notPermitted, groupAfter, totalAfter, isCash}
 use Rattle.books.specs.Books.{fiscalOpen, anyOpen}
-use Rattle.books.specs.Groups.{at}
+use Rattle.shares.specs.Shares.{sumAfter}
+use Rattle.shares.specs.Receipts.{notAdjusted, isSum}
+use Rattle.books.specs.Groups.{eight, at}
 use Rattle.books.specs.Rates.{rateIn, isEnabled, capacityOf}
 use Rattle.books.specs.Registers.{registerOf}
+use Rattle.books.specs.Sound.{inTwelve}
 use Rattle.books.specs.declared.Books.{Books}
 use Rattle.rules.specs.Reasons.{full, noneOpen, owed, tendered}
 use Rattle.rules.specs.Rules.{ruleOf}
 use Rattle.rules.specs.Views.{viewOf}
 use Rattle.rules.specs.declared.views.View.{View}
-use Rattle.rules.specs.declared.views.View.the-variants.{Sells, Pays, Clears}
+use Rattle.rules.specs.declared.views.View.the-variants.{Sells, Adjusts, Pays, Clears}
 use Rattle.rules.proofs.Reasoning.{none-of}
 use Rattle.deeds.specs.Deeds.{refusedWith, doneWith, deedOf, carriedOut}
 use Rattle.deeds.specs.declared.Deed.{Deed}
@@ -91,6 +96,34 @@ line-done b m s f =
       amount = ltb-false 99999999 l (none-of (ltb 99999999 p) (ltb 99999999 l) (v2 .0) .1);
       total = ltb-false 9999999999 (totalAfter r s m) (v2 .1);
       sum = ltb-false 999999999999 (at (b .day) (s .group) + groupAfter r s m) (v3 .1);
+    }
+
+-- 51 with a Percent or an Abs that is done
+pub record AdjustDone (b : Books) (a : Adjust) : Type 0 where
+  pub isOpen : fiscalOpen (b .opened) ≡ true
+  pub untried : b .receipt .tried ≡ false
+  pub fields : adjustFits false a ≡ true
+  pub permitted : notAdjusted (b .receipt) a ≡ false
+  pub summed : isSum (b .receipt .groups) (b .receipt .total) ≡ true
+  pub total : finishedOf (b .receipt .total) a ≤ 9999999999
+  pub days : every inTwelve (eight (λ g. at (b .day) g + sumAfter a (b .receipt .total) (at (b .receipt .groups)) g)) ≡ true
+
+pub adjust-done : (b : Books) (m : Match) (a : Adjust) → Free b m (Adjusts a) → AdjustDone b a
+adjust-done b m a f =
+    let r = b .receipt in
+    let days = every inTwelve (eight (λ g. at (b .day) g + sumAfter a (r .total) (at (r .groups)) g)) in
+    let n3 = none-of (noneOpen b) (notAdjusted r a) (f .three) in
+    let n2 = none-of (r .tried || eqb (r .total) 0) (tooMuchOff (r .total) a) (n3 .1) in
+    let v2 = none-of (not (isSum (r .groups) (r .total)) || ltb 9999999999 (finishedOf (r .total) a)) (not days) (f .four) in
+    let v1 = none-of (not (isSum (r .groups) (r .total))) (ltb 9999999999 (finishedOf (r .total) a)) (v2 .0) in
+    record {
+      isOpen = not-false (fiscalOpen (b .opened)) (n3 .0);
+      untried = none-of (r .tried) (eqb (r .total) 0) (n2 .0) .0;
+      fields = not-false (adjustFits false a) (f .one);
+      permitted = n3 .1;
+      summed = not-false (isSum (r .groups) (r .total)) (v1 .0);
+      total = ltb-false 9999999999 (finishedOf (r .total) a) (v1 .1);
+      days = not-false days (v2 .1);
     }
 
 -- a payment that is done
