@@ -48,6 +48,7 @@ raised b m sum h = go (ltb (place m) 4)
 done-keeps : (b : Books) (m : Match) (v : View) → Eights b → Eights (ruleOf b m v .after)
 done-keeps b m Opens h = record { day = h .day; groups = refl }
 done-keeps b m (Sells s) h = record { day = h .day; groups = length-set (b .receipt .groups) (s .group) (groupAfter (b .receipt) s m) ∙ h .groups }
+done-keeps b m (Adjusts a) h = record { day = h .day; groups = refl }
 done-keeps b m (Pays p) h =
     let with-it = withReceipt b (b .opened) (payment b p .receipt) in
     raised with-it (p .mode) (registerOf with-it (p .mode) + min (tendered b p) (owed b)) (record { day = h .day; groups = h .groups })

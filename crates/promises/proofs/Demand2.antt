@@ -32,9 +32,9 @@ use Rattle.history.specs.Digits.{InDigits, leftOf}
 use Rattle.history.specs.History.{receiptTotal, paidSum, putIn, takenOut}
 use Rattle.history.proofs.Digits.{digits-fit, rest-and-change-fit}
 use Rattle.history.specs.Entries.{entryOf}
-use Rattle.history.specs.TakingBack.{linesIn, worthOf, TookBack}
+use Rattle.history.specs.TakingBack.{linesIn, TookBack, standing, worthOf, discountsIn, surchargesIn, linesAdded, linesOff}
 use Rattle.history.proofs.Histories.{never-overpaid, agreed-is-told}
-use Rattle.history.proofs.TakingBack.{a-line-off-takes-back-one-sold, the-groups-are-what-stands}
+use Rattle.history.proofs.TakingBack.{a-line-off-takes-back-one-sold, each-takes-one-back, the-groups-are-what-stands}
 use Rattle.line.specs.Turns.{State, Session}
 use Rattle.deeds.specs.declared.Deed.{Deed}
 use Rattle.carrying.specs.Carrying.{searchIn, deedFor, answerTo, carry}
@@ -49,7 +49,7 @@ use Rattle.promises.specs.Coded.{Machines, Fresh, HeardThrough}
 use Rattle.promises.specs.Demand2.{Moment, alwaysLent, turnBy, turnsOf, deviceAfter, allGiven, allCarried, dataIn, freshDevice, entriesOf, storeAfter, booksAfter, cashIn}
 use Rattle.promises.proofs.Through.{the-calls-are-the-recording}
 use Rattle.promises.proofs.Demand1.{deed-stays}
-use Rattle.promises.proofs.Joining.{any-history-reached, any-history-agrees, device-after-one, session-turns, cash-in-answer}
+use Rattle.promises.proofs.Joining.{any-history-leads, any-history-reached, any-history-agrees, device-after-one, session-turns, cash-in-answer}
 use Rattle.promises.proofs.Verdicts.{Right, syntax, no-kind, is-read, parsed-right}
 
 -- "built and read alike": the frame of whatever can be sent, read from any place, is heard as exactly that
@@ -138,10 +138,15 @@ module _ (sheet : List Line) (lines : 512 ≤ length sheet) where
   and-those-of-a-recording bytes =
       ap (λ (z : Session Store). z .state .store .books) (a-recording-is-its-turns bytes) ∙ the-entries-tell-the-books (alwaysLent bytes)
 
-  -- request 2026-01: the eight groups of the open receipt are its lines that stand, told from the entries
-  pub the-groups-are-the-lines-that-stand : (arrived : List Moment) (g : ℕ) → g < 8
-      → at (booksAfter sheet arrived .receipt .groups) g ≡ worthOf g (linesIn (entriesOf sheet arrived))
-  the-groups-are-the-lines-that-stand arrived = the-groups-are-what-stands (entriesOf sheet arrived) (storeAfter sheet arrived) (any-history-agrees sheet lines arrived)
+  -- requests 2026-01 and 2026-06: each of the eight groups of the open receipt is its lines that stand, with its shares of what 51 added and took off, all told
+  -- from the entries
+  pub the-groups-are-the-lines-that-stand : (arrived : List Moment) (g : ℕ) → g < 8 → let es = entriesOf sheet arrived in
+      at (booksAfter sheet arrived .receipt .groups) g + discountsIn g es ≡ worthOf g (linesIn es) + surchargesIn g es
+  the-groups-are-the-lines-that-stand arrived = the-groups-are-what-stands (any-history-leads sheet lines arrived)
+
+  -- "no line is taken back twice": the lines that stand and those done with `-` are together as many as were sold
+  pub each-line-is-taken-back-once : (arrived : List Moment) → let es = entriesOf sheet arrived in standing (linesIn es) + linesOff es ≡ linesAdded es
+  each-line-is-taken-back-once arrived = each-takes-one-back (any-history-leads sheet lines arrived)
 
   -- and whatever line is done with `-` takes back one that was really sold on this receipt, its finished amount, once
   pub a-line-off-was-really-sold : (arrived : List Moment) (x : Sale) → let s = storeAfter sheet arrived in

@@ -34,14 +34,13 @@ use Rattle.store.specs.Commands.{placeFor, deedOn, leftBy, leftOn}
 use Rattle.rules.specs.Views.{viewOf}
 use Rattle.machine.specs.Device.{Lent, enough, lentTurn}
 use Rattle.carrying.specs.Carrying.{searchIn, deedFor, answerTo, carry}
-use Rattle.history.specs.Agrees.{Agrees}
+use Rattle.history.specs.Agrees.{Agrees, LeadsTo, fresh, next, barred, guarded}
 use Rattle.history.specs.Entries.{Entry, entryOf}
 use Rattle.history.specs.Digits.{Given}
 use Rattle.history.specs.Reached.{Reached}
 use Rattle.history.proofs.Digits.{digits-fit}
-use Rattle.history.proofs.Histories.{fresh-agrees, agreement-stays, barred-agrees, guarded-agrees}
+use Rattle.history.proofs.Histories.{history-reached, history-agrees}
 use Rattle.history.proofs.Laws.{seventy-shows-the-drawer}
-use Rattle.history.proofs.Reaching.{fresh-reached}
 use Rattle.promises.specs.Demand2.{Moment, comes, on-anew, alwaysLent, onTurn, turnBy, turnsOf, deviceAfter, allGiven, allCarried, dataIn, withRead, withTurn, toldBy, freshDevice, entriesOf, storeAfter, booksAfter, cashIn}
 use Rattle.promises.proofs.Demand1.{deed-stays}
 use Rattle.promises.proofs.DeviceRows.{again, short7}
@@ -117,51 +116,47 @@ pub every-turn : (P : Turn Store → Type 0) (s : State Store)
 every-turn P s quiet on carries (comes lent byte) = byte-turn P s quiet carries lent byte
 every-turn P s quiet on carries on-anew = on
 
--- books that can be reached, and entries in agreement with them, stay so
-module _ (es : List Entry) (s : State Store) (r : Reached (s .store .books)) (h : Agrees es (s .store)) where
-  abbrev Stays : Turn Store → Type 0
-  Stays t = Reached (t .state .store .books) × Agrees (withTurn t (t .carried) es) (t .state .store)
+-- what the turns tell leads to what the device remembers
+module _ (es : List Entry) (s : State Store) (h : LeadsTo es (s .store)) where
+  abbrev Leads : Turn Store → Type 0
+  Leads t = LeadsTo (withTurn t (t .carried) es) (t .state .store)
 
   -- a command that the guard lets pass, and one that it does not
-  by-passing : (next : Place) (m : Message) (c : Command) → Given (viewOf c) → (let-pass : Bool)
+  by-passing : (m : Message) (c : Command) → Given (viewOf c) → (let-pass : Bool)
       → let d : Deed = cond let-pass (deedOn (s .store) (viewOf c)) (refusedWith 3 (s .store .books)) in
-      Agrees (record { command = c; number = d .number; shown = dataIn (frame way.ToTill (answerTo (s .store .books) (m .seq) (m .code) d)) } ∷ es) (leftBy (s .store) (placeFor (s .store) (viewOf c)) d)
-  by-passing next m c k true =
-      subst (λ e. Agrees (e ∷ es) (leftOn (s .store) (viewOf c))) (sym (told-as-done (s .store .books) (m .seq) (m .code) c (deedOn (s .store) (viewOf c))))
-      (agreement-stays es (s .store) c r k h)
-  by-passing next m c k false =
-      subst (λ e. Agrees (e ∷ es) (s .store)) (sym (told-as-done (s .store .books) (m .seq) (m .code) c (refusedWith 3 (s .store .books)))) (barred-agrees es (s .store) c h)
+      LeadsTo (record { command = c; number = d .number; shown = dataIn (frame way.ToTill (answerTo (s .store .books) (m .seq) (m .code) d)) } ∷ es) (leftBy (s .store) (placeFor (s .store) (viewOf c)) d)
+  by-passing m c k true =
+      subst (λ e. LeadsTo (e ∷ es) (leftOn (s .store) (viewOf c))) (sym (told-as-done (s .store .books) (m .seq) (m .code) c (deedOn (s .store) (viewOf c)))) (next c k h)
+  by-passing m c k false =
+      subst (λ e. LeadsTo (e ∷ es) (s .store)) (sym (told-as-done (s .store .books) (m .seq) (m .code) c (refusedWith 3 (s .store .books)))) (barred c h)
 
-  read-agrees : (next : Place) (m : Message) (x : Parsed) → Right x → Agrees (withRead (orderAs s next m x) x es) (storeAs s next m x)
-  read-agrees next m (Read c) (is-read k) =
-      guarded-agrees (withRead (orderAs s next m (Read c)) (Read c) es) (leftBy (s .store) (placeFor (s .store) (viewOf c)) (deedAs s next m (Read c))) (judgedOf (s .store .guard) (trialOf c) (m .content) .guard)
-      (by-passing next m c k (judgedOf (s .store .guard) (trialOf c) (m .content) .passes))
-  read-agrees next m Syntax syntax = h
-  read-agrees next m Unknown no-kind = h
+  read-leads : (place : Place) (m : Message) (x : Parsed) → Right x → LeadsTo (withRead (orderAs s place m x) x es) (storeAs s place m x)
+  read-leads place m (Read c) (is-read k) =
+      guarded (judgedOf (s .store .guard) (trialOf c) (m .content) .guard) (by-passing m c k (judgedOf (s .store .guard) (trialOf c) (m .content) .passes))
+  read-leads place m Syntax syntax = guarded (s .store .guard) h
+  read-leads place m Unknown no-kind = guarded (s .store .guard) h
 
-  turn-stays : (a : Moment) → Stays (turnBy s a)
-  turn-stays =
-      every-turn Stays s quiet (r, guarded-agrees es (s .store) (calmed (s .store .guard)) h)
-      (λ next m.
-      let x = parsedOf (m .code) (m .content) in
-      (deed-stays (s .store .books) (matchOf (s .store .sheet) (searchIn (s .store .books) x)) (judgedBy (s .store .guard) x (m .content) .passes) x r, read-agrees next m x (parsed-right (m .code) (m .content))))
+  turn-leads : (a : Moment) → Leads (turnBy s a)
+  turn-leads =
+      every-turn Leads s quiet (guarded (calmed (s .store .guard)) h) (λ place m. read-leads place m (parsedOf (m .code) (m .content)) (parsed-right (m .code) (m .content)))
     where
-      quiet : (t : Turn Store) → t .carried ≡ [] → t .state .store ≡ s .store → Stays t
-      quiet t none same = (subst (λ (z : Store). Reached (z .books)) (sym same) r, subst (λ ms. Agrees (withTurn t ms es) (t .state .store)) (sym none) (subst (Agrees es) (sym same) h))
+      quiet : (t : Turn Store) → t .carried ≡ [] → t .state .store ≡ s .store → Leads t
+      quiet t none same = subst (λ ms. LeadsTo (withTurn t ms es) (t .state .store)) (sym none) (subst (LeadsTo es) (sym same) h)
 
-history-stays : (es : List Entry) (s : State Store) (arrived : List Moment) → Reached (s .store .books) → Agrees es (s .store)
-    → Reached (deviceAfter s arrived .store .books) × Agrees (toldBy es (turnsOf s arrived)) (deviceAfter s arrived .store)
-history-stays es s [] r h = (r, h)
-history-stays es s (a ∷ more) r h =
-    let now = turn-stays es s r h a in
-    history-stays (withTurn (turnBy s a) (turnBy s a .carried) es) (turnBy s a .state) more (now .0) (now .1)
+history-leads : (es : List Entry) (s : State Store) (arrived : List Moment) → LeadsTo es (s .store) → LeadsTo (toldBy es (turnsOf s arrived)) (deviceAfter s arrived .store)
+history-leads es s [] h = h
+history-leads es s (a ∷ more) h = history-leads (withTurn (turnBy s a) (turnBy s a .carried) es) (turnBy s a .state) more (turn-leads es s h a)
 
-module _ (sheet : List Line) (room : 512 ≤ length sheet) where
-  pub any-history-reached : (arrived : List Moment) → Reached (booksAfter sheet arrived)
-  any-history-reached arrived = history-stays [] (freshDevice sheet) arrived fresh-reached (fresh-agrees sheet room) .0
+module _ (sheet : List Line) (room : 512 ≤ length sheet) (arrived : List Moment) where
+  pub any-history-leads : LeadsTo (entriesOf sheet arrived) (storeAfter sheet arrived)
+  any-history-leads = history-leads [] (freshDevice sheet) arrived (fresh sheet room)
 
-  pub any-history-agrees : (arrived : List Moment) → Agrees (entriesOf sheet arrived) (storeAfter sheet arrived)
-  any-history-agrees arrived = history-stays [] (freshDevice sheet) arrived fresh-reached (fresh-agrees sheet room) .1
+  -- so its books can be reached, and agree with the entries
+  pub any-history-reached : Reached (booksAfter sheet arrived)
+  any-history-reached = history-reached any-history-leads
+
+  pub any-history-agrees : Agrees (entriesOf sheet arrived) (storeAfter sheet arrived)
+  any-history-agrees = history-agrees any-history-leads
 
 -- one byte more
 pub device-after-one : (s : State Store) (arrived : List Moment) (a : Moment) → deviceAfter s (arrived ++ a ∷ []) ≡ turnBy (deviceAfter s arrived) a .state
