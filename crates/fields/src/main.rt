@@ -166,7 +166,11 @@ fn kind(c: Command) {
         Command::PrintText => word(TEXT),
         Command::Open { op, password, till } => open(op, password, till),
         Command::Sell(sale) => sell(sale),
-        Command::Subtotal { print, show } => subtotal(print, show),
+        Command::Subtotal {
+            print,
+            show,
+            adjust,
+        } => subtotal(print, show, adjust),
         Command::Pay(payment) => pay(payment),
         Command::Close => word(CLOSE),
         Command::Cancel => word(CANCEL),
@@ -181,9 +185,10 @@ fn kind(c: Command) {
     }
 }
 
-fn subtotal(print: bool, show: bool) {
+fn subtotal(print: bool, show: bool, by: Adjust) {
     field(SUBTOTAL, print as u64);
     number(show as u64);
+    adjust(by);
 }
 
 fn open(op: u64, password: Password, till: u64) {

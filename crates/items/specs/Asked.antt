@@ -39,7 +39,7 @@ tillItem till = item label.TillNumber (Number till)
 abbrev pub operatorFields : ℕ → Password → Item → Four
 operatorFields op password third = four (item label.Operator (Number op)) (passwordItem label.Password password) third noItem
 
--- PROTOCOL 5.4: 49
+-- PROTOCOL 5.4, 5.5: what is done to the line behind its product, or to the whole receipt
 abbrev pub adjusted : Adjust → Item
 adjusted adjust.Nothing = noItem
 adjusted (adjust.PercentMore p) = item label.PercentMore (Sum p)
@@ -47,15 +47,16 @@ adjusted (adjust.PercentLess p) = item label.PercentLess (Sum p)
 adjusted (adjust.AmountMore a) = item label.AmountMore (Sum a)
 adjusted (adjust.AmountLess a) = item label.AmountLess (Sum a)
 
+-- PROTOCOL 5.4: 49
 abbrev pub saleFields : Sale → Four
 saleFields s =
     four (item (cond (s .minus) label.TakenBack label.Group) (Letter (65 + s .group % 8))) (item label.Price (Sum (s .price)))
     (item label.Quantity (Thousandths (s .quantity))) (adjusted (s .adjust))
 
 -- PROTOCOL 5.5: 51
-abbrev pub flags : (print show : Bool) → Four
-flags print show =
-    four (item label.Prints (Said (cond print saying.Yes saying.No))) (item label.Shows (Said (cond show saying.Yes saying.No))) noItem noItem
+abbrev pub flags : (print show : Bool) → Item → Four
+flags print show third =
+    four (item label.Prints (Said (cond print saying.Yes saying.No))) (item label.Shows (Said (cond show saying.Yes saying.No))) third noItem
 
 -- PROTOCOL 5.6: 53
 abbrev pub modeSaying : Mode → Saying
@@ -89,7 +90,7 @@ fieldsOf CloseText = alone noItem
 fieldsOf PrintText = alone noItem
 fieldsOf (Open op password till) = operatorFields op password (tillItem till)
 fieldsOf (Sell s) = saleFields s
-fieldsOf (Subtotal print show) = flags print show
+fieldsOf (Subtotal print show adjust) = flags print show (adjusted adjust)
 fieldsOf (Pay p) = payFields p
 fieldsOf Close = alone noItem
 fieldsOf Cancel = alone noItem

@@ -39,7 +39,11 @@ fn fields_of(command: Command) -> Four
         Command::PrintText => no_fields(),
         Command::Open { op, password, till } => operator_fields(op, password, till_item(till)),
         Command::Sell(s) => sale_fields(s),
-        Command::Subtotal { print, show } => flags(print, show),
+        Command::Subtotal {
+            print,
+            show,
+            adjust,
+        } => flags(print, show, adjusted(adjust)),
         Command::Pay(p) => pay_fields(p),
         Command::Close => no_fields(),
         Command::Cancel => no_fields(),
@@ -153,7 +157,7 @@ fn sale_fields(s: Sale) -> Four
     }
 }
 
-// What is done to the line behind its product.
+// What is done to the line behind its product, or to the whole receipt.
 fn adjusted(adjust: Adjust) -> Item
     ensures { λ r. ⌜ r ≡ adjusted adjust ⌝ }
 {
@@ -178,9 +182,9 @@ fn adjusted(adjust: Adjust) -> Item
     }
 }
 
-// 51.
-fn flags(print: bool, show: bool) -> Four
-    ensures { λ r. ⌜ r ≡ flags print show ⌝ }
+// 51: the third is what is done to the receipt.
+fn flags(print: bool, show: bool, third: Item) -> Four
+    ensures { λ r. ⌜ r ≡ flags print show third ⌝ }
 {
     let prints = answer_to(print, Saying::Yes, Saying::No);
     let shows = answer_to(show, Saying::Yes, Saying::No);
@@ -194,7 +198,7 @@ fn flags(print: bool, show: bool) -> Four
             label: Label::Shows,
             value: Value::Said(shows),
         },
-        third: none,
+        third,
         fourth: none,
     }
 }

@@ -3,7 +3,8 @@ use Prim.Native.Nat.{ℕ, _+_, min}
 use mathlib.Core.Path.{_≡_, refl, sym, _∙_}
 use mathlib.Core.List.{List}
 use mathlib.Core.Bool.{Bool, true, false, cond, not, _&&_, _||_}
-use lib.Dec.{leb, ltb}
+use lib.Dec.{leb, ltb, eqb}
+use Rattle.text.specs.Parts.{every}
 use Rattle.guard.specs.Guard.{trialOf, verdictOf, passes, judgedBy}
 use Rattle.guard.specs.declared.Guard.{Guard}
 use Rattle.guard.specs.declared.Verdict.{Verdict}
@@ -11,10 +12,12 @@ use Rattle.guard.specs.declared.Verdict.the-variants as verdict
 use Rattle.kinds.specs.declared.Parsed.{Parsed}
 use Rattle.kinds.specs.declared.Parsed.the-variants as parsed
 use Rattle.sheet.specs.declared.Match.{Match}
-use Rattle.receipt.specs.Lines.{productOf, tooMuchOff, fits}
+use Rattle.receipt.specs.Lines.{productOf, finishedOf, tooMuchOff, adjustFits, fits}
 use Rattle.receipt.specs.Receipts.{amountOf, groupAfter, totalAfter, isCash}
+use Rattle.shares.specs.Shares.{sumAfter}
+use Rattle.shares.specs.Receipts.{isSum}
 use Rattle.books.specs.Books.{textOpen, anyOpen}
-use Rattle.books.specs.Groups.{at}
+use Rattle.books.specs.Groups.{eight, at}
 use Rattle.books.specs.Rates.{rateIn, isEnabled}
 use Rattle.books.specs.Registers.{registerOf}
 use Rattle.books.specs.Sound.{inTwelve, mostReceipts}
@@ -29,7 +32,7 @@ use Rattle.deeds.specs.Deeds.{refusedWith, doneWith, judged, deedOf}
 use Rattle.carrying.specs.Carrying.{deedFor}
 use Rattle.refusals.specs.Numbers.{reasonNumber}
 use Rattle.refusals.specs.Refusals.{againstView, againstVerdict, reasonOf}
-use Rattle.reasons.specs.declared.Reason.the-variants.{Done, OutOfRange, ReceiptOpen, ManyReceipts, MemoryFull, NoFiscal, PaymentDone, ManyLines, GroupDisabled, OffAboveLine, NoLineBack, OffAboveGroup, PaidInFull, AboveRest, NotPaid, NoText, LittleCash, ManyFiscal, LineOver, FinishedOver, TotalOver, GroupOver, RegisterOver, DayOver, MemoryOver, CashOver, InOver, OutOver}
+use Rattle.reasons.specs.declared.Reason.the-variants.{Done, OutOfRange, ReceiptOpen, ManyReceipts, MemoryFull, NoFiscal, PaymentDone, ManyLines, GroupDisabled, OffAboveLine, NoLineBack, OffAboveGroup, NoTotal, OffAboveTotal, PaidInFull, AboveRest, NotPaid, NoText, LittleCash, ManyFiscal, LineOver, FinishedOver, NotTheSum, TotalOver, GroupOver, RegisterOver, DayOver, MemoryOver, CashOver, InOver, OutOver}
 
 -- the number that reasons for 1, 3 and 4 come to
 abbrev numberBy : Bool → Bool → Bool → ℕ
@@ -52,6 +55,21 @@ opens false true c d = refl
 opens false false true d = refl
 opens false false false true = refl
 opens false false false false = refl
+
+-- 51 with a Percent or an Abs: z is a total of zero, u too much off, s that it is not its groups' sum
+adjusts : (f o t z u s w d : Bool)
+    → reasonNumber (cond f OutOfRange (cond o NoFiscal (cond t PaymentDone (cond z NoTotal (cond u OffAboveTotal
+    (cond s NotTheSum (cond w TotalOver (cond d GroupOver Done))))))))
+    ≡ numberBy f (o || (t || z || u)) (s || w || d)
+adjusts true o t z u s w d = refl
+adjusts false true t z u s w d = refl
+adjusts false false true z u s w d = refl
+adjusts false false false true u s w d = refl
+adjusts false false false false true s w d = refl
+adjusts false false false false false true w d = refl
+adjusts false false false false false false true d = refl
+adjusts false false false false false false false true = refl
+adjusts false false false false false false false false = refl
 
 pays : (a b c d e : Bool) → reasonNumber (cond a OutOfRange (cond b NoFiscal (cond c PaidInFull (cond d AboveRest (cond e RegisterOver Done))))) ≡ numberBy a (b || c || d) e
 pays true b c d e = refl
@@ -144,6 +162,10 @@ view-number b m v = told v ∙ sym (numbered b (ruleOf b m v))
         sells (not (fits s)) (noneOpen b) (b .receipt .tried) (leb 512 (b .receipt .lines)) (not (isEnabled (rateIn b (s .group)))) (tooMuchOff (productOf s) (s .adjust))
         (s .minus) (not (m .found)) (ltb (at (b .receipt .groups) (s .group)) (m .amount))
         (ltb 99999999 (productOf s)) (ltb 99999999 (amountOf s m)) (ltb 9999999999 (totalAfter (b .receipt) s m)) (ltb 999999999999 (at (b .day) (s .group) + groupAfter (b .receipt) s m))
+    told (Adjusts a) =
+        adjusts (not (adjustFits false a)) (noneOpen b) (b .receipt .tried) (eqb (b .receipt .total) 0) (tooMuchOff (b .receipt .total) a)
+        (not (isSum (b .receipt .groups) (b .receipt .total))) (ltb 9999999999 (finishedOf (b .receipt .total) a))
+        (not (every inTwelve (eight (λ g. at (b .day) g + sumAfter a (b .receipt .total) (at (b .receipt .groups)) g))))
     told (Pays p) =
         pays (not (tenderHolds (p .tender))) (noneOpen b) (b .receipt .settled) (not (isCash (p .mode)) && ltb (owed b) (tendered b p))
         (ltb 999999999999 (registerOf b (p .mode) + min (tendered b p) (owed b)))

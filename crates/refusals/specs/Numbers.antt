@@ -1,7 +1,7 @@
 -- PROTOCOL 2.1: the reply number of each reason.
 use Prim.Native.Nat.{ℕ}
 use Rattle.reasons.specs.declared.Reason.{Reason}
-use Rattle.reasons.specs.declared.Reason.the-variants.{Done, Syntax, OutOfRange, Unknown, WrongPassword, Locked, ReceiptOpen, ManyReceipts, MemoryFull, NoFiscal, PaymentDone, ManyLines, GroupDisabled, OffAboveLine, NoLineBack, OffAboveGroup, PaidInFull, AboveRest, NotPaid, NoText, LittleCash, ManyFiscal, LineOver, FinishedOver, TotalOver, GroupOver, RegisterOver, DayOver, MemoryOver, CashOver, InOver, OutOver}
+use Rattle.reasons.specs.declared.Reason.the-variants.{Done, Syntax, OutOfRange, Unknown, WrongPassword, Locked, ReceiptOpen, ManyReceipts, MemoryFull, NoFiscal, PaymentDone, ManyLines, GroupDisabled, OffAboveLine, NoLineBack, OffAboveGroup, NoTotal, OffAboveTotal, PaidInFull, AboveRest, NotPaid, NoText, LittleCash, ManyFiscal, LineOver, FinishedOver, NotTheSum, TotalOver, GroupOver, RegisterOver, DayOver, MemoryOver, CashOver, InOver, OutOver}
 
 abbrev pub reasonNumber : Reason → ℕ
 reasonNumber Done = 0
@@ -22,6 +22,8 @@ reasonNumber GroupDisabled = 3
 reasonNumber OffAboveLine = 3
 reasonNumber NoLineBack = 3
 reasonNumber OffAboveGroup = 3
+reasonNumber NoTotal = 3
+reasonNumber OffAboveTotal = 3
 reasonNumber PaidInFull = 3
 reasonNumber AboveRest = 3
 reasonNumber NotPaid = 3
@@ -31,6 +33,7 @@ reasonNumber LittleCash = 3
 reasonNumber ManyFiscal = 4
 reasonNumber LineOver = 4
 reasonNumber FinishedOver = 4
+reasonNumber NotTheSum = 4
 reasonNumber TotalOver = 4
 reasonNumber GroupOver = 4
 reasonNumber RegisterOver = 4

@@ -1,19 +1,25 @@
 -- PROTOCOL chapter 5, *Refused*: why a command is refused. Of each view the first of the tests of its rule that holds (`ruleOf`, rules/specs/Rules.antt),
 -- in the order of the rule book's sentences; `Done` where none does.
 use Prim.Native.Nat.{ℕ, _+_, min}
-use mathlib.Core.Bool.{cond, not, _&&_}
-use lib.Dec.{leb, ltb}
+use mathlib.Core.Bool.{false, cond, not, _&&_}
+use lib.Dec.{leb, ltb, eqb}
+use Rattle.text.specs.Parts.{every}
 use Rattle.guard.specs.Guard.{trialOf, verdictOf}
 use Rattle.guard.specs.declared.Guard.{Guard}
 use Rattle.guard.specs.declared.Verdict.{Verdict}
 use Rattle.guard.specs.declared.Verdict.the-variants as verdict
+use Rattle.kinds.specs.declared.Adjust.{Adjust}
 use Rattle.kinds.specs.declared.Command.{Command}
 use Rattle.kinds.specs.declared.Parsed.{Parsed}
 use Rattle.kinds.specs.declared.Parsed.the-variants as parsed
 use Rattle.kinds.specs.declared.Payment.{Payment}
 use Rattle.sheet.specs.declared.Match.{Match}
+use Rattle.receipt.specs.Lines.{finishedOf, tooMuchOff, adjustFits}
 use Rattle.receipt.specs.Receipts.{isCash}
+use Rattle.shares.specs.Shares.{sumAfter}
+use Rattle.shares.specs.Receipts.{isSum}
 use Rattle.books.specs.Books.{textOpen, anyOpen}
+use Rattle.books.specs.Groups.{eight, at}
 use Rattle.books.specs.Registers.{registerOf}
 use Rattle.books.specs.Sound.{inTwelve, mostReceipts}
 use Rattle.books.specs.declared.Books.{Books}
@@ -25,7 +31,7 @@ use Rattle.rules.specs.declared.views.When.{When}
 use Rattle.rules.specs.declared.views.When.the-variants.{Always, FiscalIsOpen, TextIsOpen, NoneIsOpen}
 use Rattle.reasons.specs.Lines.{againstSells}
 use Rattle.reasons.specs.declared.Reason.{Reason}
-use Rattle.reasons.specs.declared.Reason.the-variants.{Done, Syntax, OutOfRange, Unknown, WrongPassword, Locked, ReceiptOpen, ManyReceipts, MemoryFull, NoFiscal, PaymentDone, PaidInFull, AboveRest, NotPaid, NoText, LittleCash, ManyFiscal, RegisterOver, DayOver, MemoryOver, CashOver, InOver, OutOver}
+use Rattle.reasons.specs.declared.Reason.the-variants.{Done, Syntax, OutOfRange, Unknown, WrongPassword, Locked, ReceiptOpen, ManyReceipts, MemoryFull, NoFiscal, PaymentDone, NoTotal, OffAboveTotal, PaidInFull, AboveRest, NotPaid, NoText, LittleCash, ManyFiscal, NotTheSum, TotalOver, GroupOver, RegisterOver, DayOver, MemoryOver, CashOver, InOver, OutOver}
 
 -- PROTOCOL 5.3: 48, its password being right
 abbrev pub againstOpens : Books → Reason
@@ -35,6 +41,19 @@ againstOpens b =
     (cond (full b) MemoryFull
     (cond (leb mostReceipts (b .counters .fiscal)) ManyFiscal
     Done)))
+
+-- PROTOCOL 5.5: 51 with a Percent or an Abs. A total that is not the sum of its groups is out of reach (8.7)
+abbrev pub againstAdjusts : Books → Adjust → Reason
+againstAdjusts b a =
+    cond (not (adjustFits false a)) OutOfRange
+    (cond (noneOpen b) NoFiscal
+    (cond (b .receipt .tried) PaymentDone
+    (cond (eqb (b .receipt .total) 0) NoTotal
+    (cond (tooMuchOff (b .receipt .total) a) OffAboveTotal
+    (cond (not (isSum (b .receipt .groups) (b .receipt .total))) NotTheSum
+    (cond (ltb 9999999999 (finishedOf (b .receipt .total) a)) TotalOver
+    (cond (not (every inTwelve (eight (λ g. at (b .day) g + sumAfter a (b .receipt .total) (at (b .receipt .groups)) g)))) GroupOver
+    Done)))))))
 
 -- PROTOCOL 5.6: 53
 abbrev pub againstPays : Books → Payment → Reason
@@ -99,6 +118,7 @@ againstAsks b NoneIsOpen = cond (anyOpen (b .opened)) ReceiptOpen Done
 abbrev pub againstView : Books → Match → View → Reason
 againstView b m Opens = againstOpens b
 againstView b m (Sells s) = againstSells b m s
+againstView b m (Adjusts a) = againstAdjusts b a
 againstView b m (Pays p) = againstPays b p
 againstView b m Closes = againstCloses b
 againstView b m Cancels = againstCancels b

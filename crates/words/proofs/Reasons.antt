@@ -4,7 +4,7 @@ use Prim.Native.Nat.{ℕ}
 use mathlib.Core.List.{List, [], _∷_}
 use lib.ListN.{getD}
 use Rattle.reasons.specs.declared.Reason.{Reason}
-use Rattle.reasons.specs.declared.Reason.the-variants.{Done, Syntax, OutOfRange, Unknown, WrongPassword, Locked, ReceiptOpen, ManyReceipts, MemoryFull, NoFiscal, PaymentDone, ManyLines, GroupDisabled, OffAboveLine, NoLineBack, OffAboveGroup, PaidInFull, AboveRest, NotPaid, NoText, LittleCash, ManyFiscal, LineOver, FinishedOver, TotalOver, GroupOver, RegisterOver, DayOver, MemoryOver, CashOver, InOver, OutOver}
+use Rattle.reasons.specs.declared.Reason.the-variants.{Done, Syntax, OutOfRange, Unknown, WrongPassword, Locked, ReceiptOpen, ManyReceipts, MemoryFull, NoFiscal, PaymentDone, ManyLines, GroupDisabled, OffAboveLine, NoLineBack, OffAboveGroup, NoTotal, OffAboveTotal, PaidInFull, AboveRest, NotPaid, NoText, LittleCash, ManyFiscal, LineOver, FinishedOver, NotTheSum, TotalOver, GroupOver, RegisterOver, DayOver, MemoryOver, CashOver, InOver, OutOver}
 use Rattle.words.specs.Names.{reasonWord}
 use Rattle.words.specs.Private.{reasonPlace}
 
@@ -26,6 +26,8 @@ table =
     ∷ reasonWord OffAboveLine
     ∷ reasonWord NoLineBack
     ∷ reasonWord OffAboveGroup
+    ∷ reasonWord NoTotal
+    ∷ reasonWord OffAboveTotal
     ∷ reasonWord PaidInFull
     ∷ reasonWord AboveRest
     ∷ reasonWord NotPaid
@@ -34,6 +36,7 @@ table =
     ∷ reasonWord ManyFiscal
     ∷ reasonWord LineOver
     ∷ reasonWord FinishedOver
+    ∷ reasonWord NotTheSum
     ∷ reasonWord TotalOver
     ∷ reasonWord GroupOver
     ∷ reasonWord RegisterOver
@@ -62,6 +65,8 @@ told GroupDisabled = refl
 told OffAboveLine = refl
 told NoLineBack = refl
 told OffAboveGroup = refl
+told NoTotal = refl
+told OffAboveTotal = refl
 told PaidInFull = refl
 told AboveRest = refl
 told NotPaid = refl
@@ -70,6 +75,7 @@ told LittleCash = refl
 told ManyFiscal = refl
 told LineOver = refl
 told FinishedOver = refl
+told NotTheSum = refl
 told TotalOver = refl
 told GroupOver = refl
 told RegisterOver = refl

@@ -6,7 +6,7 @@ use lib.Dec.{ltb}
 use lib.ListN.{getD}
 use Rattle.text.specs.Parts.{firstAt}
 use Rattle.reasons.specs.declared.Reason.{Reason}
-use Rattle.reasons.specs.declared.Reason.the-variants.{Done, Syntax, OutOfRange, Unknown, WrongPassword, Locked, ReceiptOpen, ManyReceipts, MemoryFull, NoFiscal, PaymentDone, ManyLines, GroupDisabled, OffAboveLine, NoLineBack, OffAboveGroup, PaidInFull, AboveRest, NotPaid, NoText, LittleCash, ManyFiscal, LineOver, FinishedOver, TotalOver, GroupOver, RegisterOver, DayOver, MemoryOver, CashOver, InOver, OutOver}
+use Rattle.reasons.specs.declared.Reason.the-variants.{Done, Syntax, OutOfRange, Unknown, WrongPassword, Locked, ReceiptOpen, ManyReceipts, MemoryFull, NoFiscal, PaymentDone, ManyLines, GroupDisabled, OffAboveLine, NoLineBack, OffAboveGroup, NoTotal, OffAboveTotal, PaidInFull, AboveRest, NotPaid, NoText, LittleCash, ManyFiscal, LineOver, FinishedOver, NotTheSum, TotalOver, GroupOver, RegisterOver, DayOver, MemoryOver, CashOver, InOver, OutOver}
 use Rattle.letters.specs.Letters.{bytes}
 
 -- PROTOCOL 5.1: the seventeen codes, what each is called, and the word for every other code
@@ -74,6 +74,8 @@ reasonWord GroupDisabled = bytes "the group is disabled"
 reasonWord OffAboveLine = bytes "the amount taken off is above the line"
 reasonWord NoLineBack = bytes "there is no such line to take back"
 reasonWord OffAboveGroup = bytes "the line taken back is above what its group has"
+reasonWord NoTotal = bytes "the receipt's total is zero"
+reasonWord OffAboveTotal = bytes "the amount taken off is above the total"
 reasonWord PaidInFull = bytes "the receipt is paid in full"
 reasonWord AboveRest = bytes "it is not cash, and above the rest"
 reasonWord NotPaid = bytes "the receipt is not paid in full"
@@ -82,6 +84,7 @@ reasonWord LittleCash = bytes "there is less than that in the drawer"
 reasonWord ManyFiscal = bytes "Fiscal would pass its four digits"
 reasonWord LineOver = bytes "price times quantity is above 999999.99"
 reasonWord FinishedOver = bytes "the finished line is above 999999.99"
+reasonWord NotTheSum = bytes "the total is not the sum of its groups, or passes ten digits"
 reasonWord TotalOver = bytes "the receipt's total would pass ten digits"
 reasonWord GroupOver = bytes "the group's day sum would pass twelve digits"
 reasonWord RegisterOver = bytes "cash, or the mode's register, would pass twelve digits"

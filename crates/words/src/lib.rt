@@ -98,6 +98,8 @@ pub fn reason_word(reason: Reason) -> Words
         the amount taken off is above the line\n\
         there is no such line to take back\n\
         the line taken back is above what its group has\n\
+        the receipt's total is zero\n\
+        the amount taken off is above the total\n\
         the receipt is paid in full\n\
         it is not cash, and above the rest\n\
         the receipt is not paid in full\n\
@@ -106,6 +108,7 @@ pub fn reason_word(reason: Reason) -> Words
         Fiscal would pass its four digits\n\
         price times quantity is above 999999.99\n\
         the finished line is above 999999.99\n\
+        the total is not the sum of its groups, or passes ten digits\n\
         the receipt's total would pass ten digits\n\
         the group's day sum would pass twelve digits\n\
         cash, or the mode's register, would pass twelve digits\n\
@@ -139,22 +142,25 @@ fn reason_place(reason: Reason) -> usize
         Reason::OffAboveLine => 13,
         Reason::NoLineBack => 14,
         Reason::OffAboveGroup => 15,
-        Reason::PaidInFull => 16,
-        Reason::AboveRest => 17,
-        Reason::NotPaid => 18,
-        Reason::NoText => 19,
-        Reason::LittleCash => 20,
-        Reason::ManyFiscal => 21,
-        Reason::LineOver => 22,
-        Reason::FinishedOver => 23,
-        Reason::TotalOver => 24,
-        Reason::GroupOver => 25,
-        Reason::RegisterOver => 26,
-        Reason::DayOver => 27,
-        Reason::MemoryOver => 28,
-        Reason::CashOver => 29,
-        Reason::InOver => 30,
-        Reason::OutOver => 31,
+        Reason::NoTotal => 16,
+        Reason::OffAboveTotal => 17,
+        Reason::PaidInFull => 18,
+        Reason::AboveRest => 19,
+        Reason::NotPaid => 20,
+        Reason::NoText => 21,
+        Reason::LittleCash => 22,
+        Reason::ManyFiscal => 23,
+        Reason::LineOver => 24,
+        Reason::FinishedOver => 25,
+        Reason::NotTheSum => 26,
+        Reason::TotalOver => 27,
+        Reason::GroupOver => 28,
+        Reason::RegisterOver => 29,
+        Reason::DayOver => 30,
+        Reason::MemoryOver => 31,
+        Reason::CashOver => 32,
+        Reason::InOver => 33,
+        Reason::OutOver => 34,
     }
 }
 

@@ -100,10 +100,22 @@ returns-31 c = sym (ap reasonPlace (c .enum-told31 .given .1))
 returns-32 : tie.Need-returns-32
 returns-32 c = sym (ap reasonPlace (c .enum-told32 .given .1))
 
+returns-33 : tie.Need-returns-33
+returns-33 c = sym (ap reasonPlace (c .enum-told33 .given .1))
+
+returns-34 : tie.Need-returns-34
+returns-34 c = sym (ap reasonPlace (c .enum-told34 .given .1))
+
+returns-35 : tie.Need-returns-35
+returns-35 c = sym (ap reasonPlace (c .enum-told35 .given .1))
+
 pub reason-place-spec : {M : Type 1} → statement M
 reason-place-spec =
     tie.close
     (tie.spec
+    (λ c. search needs)
+    (λ c. search needs)
+    (λ c. search needs)
     (λ c. search needs)
     (λ c. search needs)
     (λ c. search needs)
@@ -167,4 +179,7 @@ reason-place-spec =
     returns-29
     returns-30
     returns-31
-    returns-32)
+    returns-32
+    returns-33
+    returns-34
+    returns-35)

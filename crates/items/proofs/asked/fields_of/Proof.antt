@@ -1,5 +1,5 @@
 use mathlib.Core.Path.{sym, ap, _∙_}
-use Rattle.items.specs.Asked.{fieldsOf, operatorFields}
+use Rattle.items.specs.Asked.{fieldsOf, operatorFields, flags}
 use borrow.Author.Needs.{needs}
 use Rattle.items.proofs.asked.fields_of.Statement.{statement}
 use Rattle.items.proofs.asked.fields_of.Tie as tie
@@ -20,7 +20,9 @@ returns-5 : tie.Need-returns-5
 returns-5 c = c .sale-fields .ensures ∙ sym (ap fieldsOf (c .before .before .command2 .given .1))
 
 returns-6 : tie.Need-returns-6
-returns-6 c = c .flags .ensures ∙ sym (ap fieldsOf (c .before .before .command3 .given .1))
+returns-6 c =
+    let k = c .before .before .before .command3 .given in
+    c .flags .ensures ∙ ap (flags (k .0 .0) (k .0 .1 .0)) (c .before .adjusted .ensures) ∙ sym (ap fieldsOf (k .1))
 
 returns-7 : tie.Need-returns-7
 returns-7 c = c .pay-fields .ensures ∙ sym (ap fieldsOf (c .before .before .command4 .given .1))
@@ -71,6 +73,7 @@ fields-of-spec =
     (λ c. search needs)
     (λ c κs. search needs)
     (λ c. search needs)
+    (λ c κs. search needs)
     (λ c κs. search needs)
     (λ c. search needs)
     (λ c κs. search needs)

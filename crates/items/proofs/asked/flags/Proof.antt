@@ -9,12 +9,12 @@ use borrow.Author.Needs.{needs}
 use Rattle.items.proofs.asked.flags.Statement.{statement}
 use Rattle.items.proofs.asked.flags.Tie as tie
 
-both : (p p' s s' : Saying) (n : Item) → p ≡ p' → s ≡ s' → n ≡ noItem
-    → four (item label.Prints (Said p)) (item label.Shows (Said s)) n n ≡ four (item label.Prints (Said p')) (item label.Shows (Said s')) noItem noItem
-both p p' s s' n e f g = λ i. four (item label.Prints (Said (e i))) (item label.Shows (Said (f i))) (g i) (g i)
+both : (p p' s s' : Saying) (t n : Item) → p ≡ p' → s ≡ s' → n ≡ noItem
+    → four (item label.Prints (Said p)) (item label.Shows (Said s)) t n ≡ four (item label.Prints (Said p')) (item label.Shows (Said s')) t noItem
+both p p' s s' t n e f g = λ i. four (item label.Prints (Said (e i))) (item label.Shows (Said (f i))) t (g i)
 
 returns : tie.Need-returns
-returns c = both _ _ _ _ _ (c .before .before .answer-to .ensures) (c .before .answer-to2 .ensures) (c .no-item .ensures)
+returns c = both _ _ _ _ _ _ (c .before .before .answer-to .ensures) (c .before .answer-to2 .ensures) (c .no-item .ensures)
 
 pub flags-spec : {M : Type 1} → statement M
 flags-spec =
