@@ -13,9 +13,8 @@ use Rattle.kinds.specs.declared.Sale.{Sale}
 use Rattle.sheet.specs.declared.Match.{Match}
 use Rattle.receipt.specs.Receipts.{emptyReceipt, amountOf, groupAfter, withLine}
 use Rattle.receipt.proofs.Adjusting.{fits-parts}
-use Rattle.shares.specs.Shares.{sizeOf, isLess, sumAfter}
 use Rattle.shares.specs.Receipts.{withAdjust}
-use Rattle.shares.proofs.Laws.{same-after}
+use Rattle.shares.proofs.Laws.{after-as-told}
 use Rattle.books.specs.Groups.{eight, at, sum}
 use Rattle.books.specs.Registers.{place}
 use Rattle.books.specs.Sound.{withReceiptOf}
@@ -30,7 +29,7 @@ use Rattle.rules.specs.declared.views.View.the-variants.{Opens, Sells, Adjusts,
 use Rattle.rules.proofs.Reasoning.{takes-within}
 use Rattle.history.specs.Agrees.{ReceiptAgrees, Says}
 use Rattle.history.specs.Digits.{leftOf}
-use Rattle.history.specs.History.{Figures, noneTold, totalIn, withSale, withAdjustment, after}
+use Rattle.history.specs.History.{Figures, noneTold, withSale, withAdjustment, after}
 use Rattle.history.specs.Reached.{Reached, Receipted}
 use Rattle.history.specs.Sold.{amountTold}
 use Rattle.history.proofs.Lists.{set-other, same-eight}
@@ -98,10 +97,7 @@ module _ (f : Figures) (b : Books) (h : Says f b) (m : Match) (s : Sale) (told :
 -- 51 with a Percent or an Abs: the same shares, since groups and total are the history's
 module _ (f : Figures) (b : Books) (h : Says f b) (a : Adjust) where
   adjust-groups : (g : ℕ) → g < 8 → at (withAdjust (b .receipt) a .groups) g ≡ withAdjustment (f .receipt) a .sums g
-  adjust-groups g lt =
-      at-eight (sumAfter a (b .receipt .total) (at (b .receipt .groups))) g lt
-      ∙ ap (λ t. sumAfter a t (at (b .receipt .groups)) g) (h .receipt .total)
-      ∙ same-after (at (b .receipt .groups)) (f .receipt .sums) (h .receipt .groups) (isLess a) (sizeOf (totalIn (f .receipt)) a) (totalIn (f .receipt)) g lt
+  adjust-groups = after-as-told (b .receipt) a (f .receipt .sums) (h .receipt .groups) (h .receipt .total)
 
   adjusted : Receipted (withAdjust (b .receipt) a) → ReceiptAgrees (withAdjustment (f .receipt) a) (withAdjust (b .receipt) a)
   adjusted new =

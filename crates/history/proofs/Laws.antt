@@ -4,6 +4,7 @@ use mathlib.Core.Bool.{true, false, false≢true}
 use Prim.Native.Nat.{_≤_}
 use native.Mathlib.Omega.{arith}
 use lib.ListN.{length, replicate}
+use Rattle.kinds.specs.declared.Adjust.{Adjust}
 use Rattle.kinds.specs.declared.Command.{Command}
 use Rattle.kinds.specs.declared.Command.the-variants.{Sell, Closing, Drawer}
 use Rattle.kinds.specs.declared.Sale.{Sale}
@@ -13,20 +14,23 @@ use Rattle.sheet.specs.Notes.{noted}
 use Rattle.sheet.specs.Sheet.{blank}
 use Rattle.sheet.specs.declared.Match.{Match}
 use Rattle.sheet.specs.declared.Note.the-variants as note
+use Rattle.shares.specs.Shares.{sizeOf, sumAfter}
+use Rattle.shares.proofs.Laws.{the-shares-sum-up, a-share-is-covered, not-too-much, total-by-size, sum-tells, free-tells, the-receipt-stays-summed}
 use Rattle.books.specs.Groups.{at}
+use Rattle.books.proofs.Eight.{at-eight}
 use Rattle.books.specs.declared.Books.{Books}
 use Rattle.books.specs.declared.Shown.the-variants as shown
 use Rattle.rules.specs.Rules.{ruleOf}
 use Rattle.rules.specs.Views.{viewOf}
 use Rattle.rules.specs.declared.views.View.{View}
 use Rattle.rules.specs.declared.views.View.the-variants.{Opens, Sells, Adjusts, Pays, Closes, Cancels, OpensText, ClosesText, Clears, Puts, Takes, Asks}
-use Rattle.deeds.specs.Deeds.{carriedOut}
+use Rattle.deeds.specs.Deeds.{deedOf, carriedOut}
 use Rattle.deeds.specs.declared.Deed.{Deed}
 use Rattle.store.specs.Store.{Store}
 use Rattle.store.specs.Commands.{placeFor, matchFor, deedOn, leftOn}
 use Rattle.history.specs.Entries.{does}
-use Rattle.history.specs.Reached.{Unchanged, DayCleared}
-use Rattle.history.proofs.Steps.{Step, refused, goes, judging, taken, line-done}
+use Rattle.history.specs.Reached.{Unchanged, DayCleared, SharedOut}
+use Rattle.history.proofs.Steps.{Step, refused, goes, judging, taken, line-done, adjust-done}
 
 refusing : {b : Books} {m : Match} {v : View} {d : Deed} → Step b m v d → (d .number ≡ 0 → ⊥) → Unchanged b d
 refusing (refused n h) z = record { books = refl; shown = refl; note = refl; number = omega arith }
@@ -90,6 +94,28 @@ lowering {b} {m} s (goes f) z = line-done b m s f .covered
 pub a-line-off-is-covered : (b : Books) (m : Match) (s : Sale) → carriedOut b m (Sell s) .number ≡ 0 → s .minus ≡ true
     → m .amount ≤ at (b .receipt .groups) (s .group)
 a-line-off-is-covered b m s z = lowering s (taken b m (Sell s)) z
+
+sharing : {b : Books} {m : Match} (a : Adjust) {d : Deed} → Step b m (Adjusts a) d → d .number ≡ 0 → SharedOut a b (d .books)
+sharing a (refused n h) z = absurd (omega (arith, z))
+sharing {b} {m} a (goes f) z =
+    let r = b .receipt in
+    let done = adjust-done b m a f in
+    let free = free-tells r a (done .permitted) in
+    let size = sizeOf (r .total) a in
+    record {
+      shares = the-shares-sum-up size (r .total) (at (r .groups)) (free .0) (sum-tells (r .groups) (r .total) (done .summed) .1);
+      groups = at-eight (sumAfter a (r .total) (at (r .groups)));
+      covered = λ less g lt. a-share-is-covered size (r .total) (at (r .groups)) (free .0) (not-too-much (r .total) a (done .fields) (free .1) less) g;
+      total = total-by-size (r .total) a;
+      summed = the-receipt-stays-summed r a (done .fields) (done .permitted) (done .summed);
+      lines = refl;
+      unpaid = (refl, refl, refl);
+      others = refl;
+    }
+
+-- 51 with a Percent or an Abs that is done, on any books
+pub a-51-is-shared-out : (b : Books) (m : Match) (a : Adjust) → deedOf b m (Adjusts a) .number ≡ 0 → SharedOut a b (deedOf b m (Adjusts a) .books)
+a-51-is-shared-out b m a z = sharing a (judging b m (Adjusts a)) z
 
 serving : {b : Books} {m : Match} {v : View} {d : Deed} → ruleOf b m v .shows ≡ shown.InDrawer → Step b m v d → d .number ≡ 0 → d .shown ≡ shown.InDrawer
 serving e (refused n h) z = absurd (omega (arith, z))

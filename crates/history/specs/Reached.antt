@@ -1,12 +1,14 @@
 -- What a refusal leaves, what a closing clears, and what holds of the books in every state that a fresh device can reach.
-use Prim.Native.Nat.{_≤_}
+use Prim.Native.Nat.{ℕ, _≤_, _<_}
 use mathlib.Core.Path.{_≡_}
 use mathlib.Core.Bool.{true, false}
 use lib.ListN.{length, replicate}
+use Rattle.kinds.specs.declared.Adjust.{Adjust}
 use Rattle.sheet.specs.declared.Note.the-variants as note
 use Rattle.receipt.specs.Receipts.{emptyReceipt}
 use Rattle.receipt.specs.declared.Receipt.{Receipt}
-use Rattle.books.specs.Books.{fiscalOpen}
+use Rattle.shares.specs.Shares.{sizeOf, isLess, changedBy, shareAt}
+use Rattle.books.specs.Books.{fiscalOpen, withReceipt}
 use Rattle.books.specs.Groups.{eight, at, sum}
 use Rattle.books.specs.Sound.{sound}
 use Rattle.books.specs.declared.Books.{Books}
@@ -31,7 +33,24 @@ pub record DayCleared (before after : Books) : Type 0 where
   pub receipt : after .receipt ≡ before .receipt
   pub opened : after .opened ≡ before .opened
 
--- a receipt as sales and payments make it
+-- PROTOCOL 6.8: a group's share in a Percent or an Abs on a receipt
+abbrev pub shareIn : Receipt → Adjust → (g : ℕ) → ℕ
+shareIn r a = shareAt (sizeOf (r .total) a) (r .total) (at (r .groups))
+
+-- PROTOCOL 5.5, 6.8: what 51 with a Percent or an Abs makes of the books: the shares come to its size, and nothing else is changed
+pub record SharedOut (a : Adjust) (before after : Books) : Type 0 where
+  pub shares : sum (eight (shareIn (before .receipt) a)) ≡ sizeOf (before .receipt .total) a
+  pub groups : (g : ℕ) → g < 8 → at (after .receipt .groups) g ≡ changedBy (isLess a) (at (before .receipt .groups) g) (shareIn (before .receipt) a g)
+  -- no group falls below zero
+  pub covered : isLess a ≡ true → (g : ℕ) → g < 8 → shareIn (before .receipt) a g ≤ at (before .receipt .groups) g
+  pub total : after .receipt .total ≡ changedBy (isLess a) (before .receipt .total) (sizeOf (before .receipt .total) a)
+  pub summed : after .receipt .total ≡ sum (eight (at (after .receipt .groups)))
+  -- it is no line, and no payment
+  pub lines : after .receipt .lines ≡ before .receipt .lines
+  pub unpaid : (after .receipt .paid ≡ before .receipt .paid) × (after .receipt .tried ≡ before .receipt .tried) × (after .receipt .settled ≡ before .receipt .settled)
+  pub others : after ≡ withReceipt before (before .opened) (after .receipt)
+
+-- a receipt as sales, changes of the total and payments make it
 pub record Receipted (r : Receipt) : Type 0 where
   pub eight-groups : length (r .groups) ≡ 8
   -- PROTOCOL 6.5: the total is the sum of the eight groups
