@@ -49,7 +49,8 @@ use Rattle.promises.specs.Coded.{Machines, Fresh, HeardThrough}
 use Rattle.promises.specs.Demand2.{Moment, alwaysLent, turnBy, turnsOf, deviceAfter, allGiven, allCarried, dataIn, freshDevice, entriesOf, storeAfter, booksAfter, cashIn}
 use Rattle.promises.proofs.Through.{the-calls-are-the-recording}
 use Rattle.promises.proofs.Demand1.{deed-stays}
-use Rattle.promises.proofs.Joining.{any-history-leads, any-history-reached, any-history-agrees, device-after-one, session-turns, cash-in-answer}
+use Rattle.promises.proofs.Leading.{any-history-leads, any-history-reached, any-history-agrees}
+use Rattle.promises.proofs.Joining.{device-after-one, session-turns, cash-in-answer}
 use Rattle.promises.proofs.Verdicts.{Right, syntax, no-kind, is-read, parsed-right}
 
 -- "built and read alike": the frame of whatever can be sent, read from any place, is heard as exactly that

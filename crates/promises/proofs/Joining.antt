@@ -34,12 +34,10 @@ use Rattle.store.specs.Commands.{placeFor, deedOn, leftBy, leftOn}
 use Rattle.rules.specs.Views.{viewOf}
 use Rattle.machine.specs.Device.{Lent, enough, lentTurn}
 use Rattle.carrying.specs.Carrying.{searchIn, deedFor, answerTo, carry}
-use Rattle.history.specs.Agrees.{Agrees, LeadsTo, fresh, next, barred, guarded}
 use Rattle.history.specs.Entries.{Entry, entryOf}
 use Rattle.history.specs.Digits.{Given}
 use Rattle.history.specs.Reached.{Reached}
 use Rattle.history.proofs.Digits.{digits-fit}
-use Rattle.history.proofs.Histories.{history-reached, history-agrees}
 use Rattle.history.proofs.Laws.{seventy-shows-the-drawer}
 use Rattle.promises.specs.Demand2.{Moment, comes, on-anew, alwaysLent, onTurn, turnBy, turnsOf, deviceAfter, allGiven, allCarried, dataIn, withRead, withTurn, toldBy, freshDevice, entriesOf, storeAfter, booksAfter, cashIn}
 use Rattle.promises.proofs.Demand1.{deed-stays}
@@ -65,7 +63,7 @@ data-read seq code content status six =
     ap (take (length whole - 17)) split ∙ take-at content tail (length whole - 17) size
 
 -- a deed's answer, read back as the entry it makes
-told-as-done : (b : Books) (seq code : ℕ) (c : Command) (d : Deed) → _≡_ {A = Entry} (record { command = c; number = d .number; shown = dataIn (frame way.ToTill (answerTo b seq code d)) }) (entryOf b c d)
+pub told-as-done : (b : Books) (seq code : ℕ) (c : Command) (d : Deed) → _≡_ {A = Entry} (record { command = c; number = d .number; shown = dataIn (frame way.ToTill (answerTo b seq code d)) }) (entryOf b c d)
 told-as-done b seq code c d =
     ap (λ (z : List ℕ). record { command = c; number = d .number; shown = z }) (data-read seq code (contentOf (d .shown) (b .day) (d .books)) (statusOf (d .number) (d .books)) refl)
 
@@ -74,13 +72,13 @@ module _ (s : State Store) (next : Place) (m : Message) where
   abbrev deedAs : Parsed → Deed
   deedAs x = deedFor (s .store .books) (matchOf (s .store .sheet) (searchIn (s .store .books) x)) (judgedBy (s .store .guard) x (m .content) .passes) x
 
-  abbrev storeAs : Parsed → Store
+  abbrev pub storeAs : Parsed → Store
   storeAs x = withGuard (leftBy (s .store) (placeOf (s .store .sheet) (searchIn (s .store .books) x)) (deedAs x)) (judgedBy (s .store .guard) x (m .content) .guard)
 
   abbrev answerAs : Parsed → List ℕ
   answerAs x = frame way.ToTill (answerTo (s .store .books) (m .seq) (m .code) (deedAs x))
 
-  abbrev orderAs : Parsed → Turn Store
+  abbrev pub orderAs : Parsed → Turn Store
   orderAs x =
       record {
         number = deedAs x .number;
@@ -115,48 +113,6 @@ pub every-turn : (P : Turn Store → Type 0) (s : State Store)
     → ((t : Turn Store) → t .carried ≡ [] → t .state .store ≡ s .store → P t) → P (onTurn s) → ((next : Place) (m : Message) → P (order s next m)) → (a : Moment) → P (turnBy s a)
 every-turn P s quiet on carries (comes lent byte) = byte-turn P s quiet carries lent byte
 every-turn P s quiet on carries on-anew = on
-
--- what the turns tell leads to what the device remembers
-module _ (es : List Entry) (s : State Store) (h : LeadsTo es (s .store)) where
-  abbrev Leads : Turn Store → Type 0
-  Leads t = LeadsTo (withTurn t (t .carried) es) (t .state .store)
-
-  -- a command that the guard lets pass, and one that it does not
-  by-passing : (m : Message) (c : Command) → Given (viewOf c) → (let-pass : Bool)
-      → let d : Deed = cond let-pass (deedOn (s .store) (viewOf c)) (refusedWith 3 (s .store .books)) in
-      LeadsTo (record { command = c; number = d .number; shown = dataIn (frame way.ToTill (answerTo (s .store .books) (m .seq) (m .code) d)) } ∷ es) (leftBy (s .store) (placeFor (s .store) (viewOf c)) d)
-  by-passing m c k true =
-      subst (λ e. LeadsTo (e ∷ es) (leftOn (s .store) (viewOf c))) (sym (told-as-done (s .store .books) (m .seq) (m .code) c (deedOn (s .store) (viewOf c)))) (next c k h)
-  by-passing m c k false =
-      subst (λ e. LeadsTo (e ∷ es) (s .store)) (sym (told-as-done (s .store .books) (m .seq) (m .code) c (refusedWith 3 (s .store .books)))) (barred c h)
-
-  read-leads : (place : Place) (m : Message) (x : Parsed) → Right x → LeadsTo (withRead (orderAs s place m x) x es) (storeAs s place m x)
-  read-leads place m (Read c) (is-read k) =
-      guarded (judgedOf (s .store .guard) (trialOf c) (m .content) .guard) (by-passing m c k (judgedOf (s .store .guard) (trialOf c) (m .content) .passes))
-  read-leads place m Syntax syntax = guarded (s .store .guard) h
-  read-leads place m Unknown no-kind = guarded (s .store .guard) h
-
-  turn-leads : (a : Moment) → Leads (turnBy s a)
-  turn-leads =
-      every-turn Leads s quiet (guarded (calmed (s .store .guard)) h) (λ place m. read-leads place m (parsedOf (m .code) (m .content)) (parsed-right (m .code) (m .content)))
-    where
-      quiet : (t : Turn Store) → t .carried ≡ [] → t .state .store ≡ s .store → Leads t
-      quiet t none same = subst (λ ms. LeadsTo (withTurn t ms es) (t .state .store)) (sym none) (subst (LeadsTo es) (sym same) h)
-
-history-leads : (es : List Entry) (s : State Store) (arrived : List Moment) → LeadsTo es (s .store) → LeadsTo (toldBy es (turnsOf s arrived)) (deviceAfter s arrived .store)
-history-leads es s [] h = h
-history-leads es s (a ∷ more) h = history-leads (withTurn (turnBy s a) (turnBy s a .carried) es) (turnBy s a .state) more (turn-leads es s h a)
-
-module _ (sheet : List Line) (room : 512 ≤ length sheet) (arrived : List Moment) where
-  pub any-history-leads : LeadsTo (entriesOf sheet arrived) (storeAfter sheet arrived)
-  any-history-leads = history-leads [] (freshDevice sheet) arrived (fresh sheet room)
-
-  -- so its books can be reached, and agree with the entries
-  pub any-history-reached : Reached (booksAfter sheet arrived)
-  any-history-reached = history-reached any-history-leads
-
-  pub any-history-agrees : Agrees (entriesOf sheet arrived) (storeAfter sheet arrived)
-  any-history-agrees = history-agrees any-history-leads
 
 -- one byte more
 pub device-after-one : (s : State Store) (arrived : List Moment) (a : Moment) → deviceAfter s (arrived ++ a ∷ []) ≡ turnBy (deviceAfter s arrived) a .state

@@ -11,6 +11,7 @@ pub mod CodedTill
 pub mod Coded
 pub mod Through
 pub mod Joining
+pub mod Leading
 pub mod Demand2
 pub mod Guarding
 pub mod Telling

@@ -28,13 +28,15 @@ use Rattle.kinds.specs.declared.operators.Third.the-variants as third
 use Rattle.kinds.specs.declared.Adjust.{Adjust}
 use Rattle.kinds.specs.declared.Adjust.the-variants.{Nothing, PercentMore, PercentLess, AmountMore, AmountLess}
 use Rattle.kinds.specs.declared.Command.{Command}
-use Rattle.kinds.specs.declared.Command.the-variants.{Drawer}
+use Rattle.kinds.specs.declared.Command.the-variants.{Subtotal, Drawer}
 use Rattle.kinds.specs.declared.Mode.{Mode}
 use Rattle.kinds.specs.declared.Mode.the-variants.{Cash}
 use Rattle.kinds.specs.declared.Parsed.{Parsed}
 use Rattle.kinds.specs.declared.Parsed.the-variants.{Read, Syntax, Unknown}
 use Rattle.kinds.specs.declared.Service.the-variants.{In, Out}
 use Rattle.command.specs.Money.{star, semicolon, groupOf, quantityIn, pricedOf, withPercent, withAmount, saleOf, sellOf, behindTabOf, restThen, isMode, modeOf, tenderOf, paymentIn, payOf, drawerOf}
+use Rattle.money.specs.Money.{byPercent, byAmount}
+use Rattle.money.specs.Subtotals.{isFlag, changedByPercent, changedByAmount, subtotalWith, subtotalOf}
 use Rattle.command.specs.Commands.{formOf, notMarked, parsedOf}
 use Rattle.receipt.specs.Lines.{adjustFits}
 use Rattle.sheet.specs.declared.Match.{Match}
@@ -204,9 +206,41 @@ behind-tab-right (g ∷ s) =
 sell-right : (s : List ℕ) → Right (sellOf s)
 sell-right s = rest-right (restOf s) s behindTabOf behind-tab-right
 
+-- 51: what may stand behind the two characters
+adjust-right : (print show : Bool) (a : Adjust) → adjustFits false a ≡ true → Right (Read (Subtotal print show a))
+adjust-right print show Nothing fit = plain (λ books m. refl) refl
+adjust-right print show (PercentMore p) fit = plain (λ books m. ap not fit) refl
+adjust-right print show (PercentLess p) fit = plain (λ books m. ap not fit) refl
+adjust-right print show (AmountMore n) fit = plain (λ books m. ap not fit) refl
+adjust-right print show (AmountLess n) fit = plain (λ books m. ap not fit) refl
+
+module _ (print show : Bool) where
+  changed-right : (s : List ℕ) → Right (changedByPercent print show s) × Right (changedByAmount print show s)
+  changed-right s = (
+    signed-right (percentOf s) _ (λ e.
+        let minus = signedMinus (percentOf s) in
+        let n = signedSize (percentOf s) in
+        let fit : leb n 9900 ≡ true = le-leb n 9900 (percent-small s minus n e) in
+        adjust-right print show (byPercent minus n) (fits-either minus (PercentLess n) (PercentMore n) fit fit)),
+    signed-right (signedPriceOf s) _ (λ e.
+        let minus = signedMinus (signedPriceOf s) in
+        let n = signedSize (signedPriceOf s) in
+        let fit : ltb n 10000000000 ≡ true = lt-ltb n 10000000000 (signed-price-small s minus n e) in
+        adjust-right print show (byAmount minus n) (fits-either minus (AmountLess n) (AmountMore n) fit fit)),
+  )
+
+  behind-right : (s : List ℕ) → Right (subtotalWith print show s)
+  behind-right [] = plain (λ books m. refl) refl
+  behind-right (mark ∷ s) = either (eqb mark comma) _ _ (changed-right s .0) (either (eqb mark semicolon) _ _ (changed-right s .1) syntax)
+
+subtotal-right : (s : List ℕ) → Right (subtotalOf s)
+subtotal-right [] = syntax
+subtotal-right (a ∷ []) = syntax
+subtotal-right (a ∷ b ∷ s) = either (isFlag a && isFlag b) _ _ (behind-right (eqb a 0x31) (eqb b 0x31) s) syntax
+
 form-right : (code : ℕ) (s : List ℕ) → Right (formOf code s)
 form-right code s =
-    search (either, plain, syntax, no-kind, operators-right, sell-right, pay-right, sums-right, closing-right, drawer-right) depth 24
+    search (either, plain, syntax, no-kind, operators-right, sell-right, subtotal-right, pay-right, sums-right, closing-right, drawer-right) depth 24
 
 -- 10h makes a known command 1, and an unknown one stays
 marked-right : (p : Parsed) → Right (notMarked p)
