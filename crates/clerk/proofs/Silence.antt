@@ -6,14 +6,13 @@ use mathlib.Core.List.{List, []}
 use native.Mathlib.Omega.{arith}
 use lib.Dec.{ltb}
 use lib.ListN.{length, take}
-use lib.Seq.{sets, length-sets}
+use lib.Seq.{length-sets}
 use borrow.Author.Tests.{le-ltb, lt-ltb, ltb-true, ltb-false}
 use Rattle.wire.specs.Frame.{Message, commandOf, sendable}
 use Rattle.wire.specs.declared.Way.the-variants.{ToDevice}
 use Rattle.exchange.specs.Exchange.{Heard, heardOn, onTimeout, heardSome}
 use Rattle.till.specs.Turns.{Turn, freshEar, idle, command, timeout, stays, sent}
 use Rattle.till.specs.Fields.{earOf, stateOf, saidOf, turnOf}
-use Rattle.till.specs.Private.{failedBy, sentBy}
 use Rattle.till.proofs.Outer.{too-short, timeout-held, command-held, command-free}
 use Rattle.till.proofs.Turning.{failsBy}
 use Rattle.till.specs.declared.Attempt.{Attempt}
@@ -58,15 +57,20 @@ module _ (frame : List ℕ) (c : Clerk) (answer buffer : List ℕ) (tries : ℕ)
         room = omega (arith, t .room, ap (λ (h : Heard). length (h .buffer)) e, length-sets buffer 0 (fails true .puts));
       }
 
-  given-up : 5 ≤ tries → unheard frame c answer buffer .word ≡ Unfinished tries
+  given-up : 5 ≤ tries → (unheard frame c answer buffer .word ≡ Unfinished tries) × (unheard frame c answer buffer .phase ≡ tells)
   given-up many =
       let e = failed-as false (le-ltb (t .attempt .tries) 5 (omega (arith, t .count))) in
-      ap (λ (h : Heard). h .said .word) e ∙ ap Unfinished (t .count)
+      let word : unheard frame c answer buffer .word ≡ Unfinished tries = ap (λ (h : Heard). h .said .word) e ∙ ap Unfinished (t .count) in
+      (word, ap (nextOf hears) word)
 
-five-tries : (frame : List ℕ) (c : Clerk) (answer buffer : List ℕ) → Trying c buffer 1 → unheardTimes 5 frame c answer buffer .word ≡ Unfinished 5
+-- told UNFINISHED with five tries
+abbrev Ends : Clerk → Type 0
+Ends c = (c .word ≡ Unfinished 5) × (c .phase ≡ tells)
+
+five-tries : (frame : List ℕ) (c : Clerk) (answer buffer : List ℕ) → Trying c buffer 1 → Ends (unheardTimes 5 frame c answer buffer)
 five-tries frame c answer buffer t = go (silence frame c answer buffer) (unheard frame c answer buffer) (again frame c answer buffer 1 t (omega arith))
   where
-    third : (h : Heard) (d : Clerk) → Trying d (h .buffer) 3 → unheardTimes 3 frame d (h .answer) (h .buffer) .word ≡ Unfinished 5
+    third : (h : Heard) (d : Clerk) → Trying d (h .buffer) 3 → Ends (unheardTimes 3 frame d (h .answer) (h .buffer))
     third h d t =
         let h4 : Heard = silence frame d (h .answer) (h .buffer) in
         let d4 : Clerk = unheard frame d (h .answer) (h .buffer) in
@@ -74,7 +78,7 @@ five-tries frame c answer buffer t = go (silence frame c answer buffer) (unheard
         let t5 = again frame d4 (h4 .answer) (h4 .buffer) 4 t4 (omega arith) in
         given-up frame (unheard frame d4 (h4 .answer) (h4 .buffer)) (silence frame d4 (h4 .answer) (h4 .buffer) .answer) (silence frame d4 (h4 .answer) (h4 .buffer) .buffer) 5 t5 (omega arith)
 
-    go : (h : Heard) (d : Clerk) → Trying d (h .buffer) 2 → unheardTimes 4 frame d (h .answer) (h .buffer) .word ≡ Unfinished 5
+    go : (h : Heard) (d : Clerk) → Trying d (h .buffer) 2 → Ends (unheardTimes 4 frame d (h .answer) (h .buffer))
     go h d t =
         third (silence frame d (h .answer) (h .buffer)) (unheard frame d (h .answer) (h .buffer)) (again frame d (h .answer) (h .buffer) 2 t (omega arith))
 
@@ -120,8 +124,9 @@ module _ (c : Clerk) (code : ℕ) (content frame buffer : List ℕ) where
           absurd (omega (arith, goes-as (stays TooShort (stateOf (c .till) frame [])) (too-short (c .till) frame [] buffer (command code content) (ltb-true (length buffer) 210 e)) p))
       by false e = held (ltb-false (length buffer) 210 e) (c .till .slot) refl
 
--- LINE 5.1, PROTOCOL 7.6: a command whose frame is written five times, with nothing read behind any of them, ends UNFINISHED with five tries
-pub silence-ends : (c : Clerk) (code : ℕ) (content frame buffer : List ℕ) → begun c code content frame buffer .clerk .phase ≡ sends
-    → (sent answer : List ℕ) → unheardTimes 5 sent (begun c code content frame buffer .clerk) answer (begun c code content frame buffer .buffer) .word ≡ Unfinished 5
+-- LINE 5.1, PROTOCOL 7.6: a command whose frame is written five times, with nothing read behind any of them, is told UNFINISHED with five tries
+pub silence-ends : (c : Clerk) (code : ℕ) (content frame buffer : List ℕ) → begun c code content frame buffer .clerk .phase ≡ sends → (sent answer : List ℕ)
+    → (unheardTimes 5 sent (begun c code content frame buffer .clerk) answer (begun c code content frame buffer .buffer) .word ≡ Unfinished 5)
+    × (unheardTimes 5 sent (begun c code content frame buffer .clerk) answer (begun c code content frame buffer .buffer) .phase ≡ tells)
 silence-ends c code content frame buffer p sent answer =
     five-tries sent (begun c code content frame buffer .clerk) answer (begun c code content frame buffer .buffer) (first-try c code content frame buffer p)

@@ -1,6 +1,6 @@
 -- The clerk put together of its parts.
 use Prim.Native.Nat.{ℕ, _-_}
-use mathlib.Core.Path.{_≡_, refl, sym, ap, _∙_}
+use mathlib.Core.Path.{_≡_, sym, ap, _∙_}
 use mathlib.Core.Bool.{Bool, true, false, cond, _||_}
 use mathlib.Core.List.{List, []}
 use lib.Dec.{eqb}
@@ -15,7 +15,6 @@ use Rattle.till.specs.Turns.{Turn, command}
 use Rattle.till.specs.Fields.{framed, saidOf, turnOf}
 use Rattle.till.specs.declared.Till.{Till}
 use Rattle.till.specs.declared.Said.{Said}
-use Rattle.till.specs.declared.Word.{Word}
 use Rattle.clerk.specs.declared.Clerk.{Clerk}
 use Rattle.clerk.specs.Clerk.{plays, sends, hears, stopped, noFaults, unfinished, turned, behind, Begun, begun, counted, halted, unsent, lineOf, readBy, heardBy, stops, toldOf}
 

@@ -11,7 +11,6 @@ use Rattle.script.specs.declared.Act.the-variants.{Nothing, Wrong, Happens, Com
 use Rattle.tally.specs.Tally.{oneMore}
 use Rattle.till.specs.Turns.{freshState, command}
 use Rattle.till.specs.Fields.{tillOf, framed, saidOf, turnOf}
-use Rattle.till.specs.declared.Till.{Till}
 use Rattle.till.specs.declared.Said.{Said}
 use Rattle.till.specs.declared.Word.{Word}
 use Rattle.till.specs.declared.Word.the-variants.{Idle, Waiting, SendAgain, Answered, Unfinished, TooShort, NotSent}

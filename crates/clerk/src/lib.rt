@@ -9,7 +9,7 @@ use till::Word;
 ghost use mathlib.Core.Path.{_≡_};
 ghost use mathlib.Core.Bool.{cond};
 ghost use Rattle.exchange.specs.Exchange.{heardSome, heardBack};
-ghost use Rattle.clerk.specs.Clerk.{turned, freshClerk, endOf, nextOf, behind, begun, lineOf, writtenBy, readBy, heardBy, stops, toldOf};
+ghost use Rattle.clerk.specs.Clerk.{freshClerk, endOf, nextOf, behind, begun, halted, lineOf, writtenBy, readBy, heardBy, stops, toldOf};
 
 // What comes next: a line of the script, a frame to write, bytes to read, or a word of the till end to tell.
 pub const PLAYS: u8 = 0;
@@ -43,6 +43,7 @@ pub struct Clerk {
     pub reads: u64,
 }
 
+// A fresh till end, and no line of the script read.
 pub fn fresh() -> Clerk
     ensures { λ r. ⌜ r ≡ freshClerk ⌝ }
 {
@@ -92,8 +93,9 @@ pub fn play(
     }
 }
 
+// Nothing comes behind what stops the script.
 fn stopped(clerk: Clerk, why: u8) -> Clerk
-    ensures { λ r. ⌜ r ≡ turned clerk 5 (clerk .lines) why ⌝ }
+    ensures { λ r. ⌜ r ≡ halted clerk why ⌝ }
 {
     let mut after = clerk;
     after.phase = STOPPED;
@@ -101,6 +103,7 @@ fn stopped(clerk: Clerk, why: u8) -> Clerk
     after
 }
 
+// A command: its frame is to be written, or that it cannot be sent is told.
 fn begin(
     clerk: Clerk,
     sent: &mut [u8; FRAME_ROOM],
