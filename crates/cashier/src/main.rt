@@ -3,6 +3,8 @@
 mod serial;
 mod tell;
 
+use clerk::ENDED;
+use clerk::STOPPED;
 use libc::STDERR_FILENO;
 use reader::FRAME_ROOM;
 use wishes::Errand;
@@ -37,22 +39,23 @@ fn open(i: usize, keep: bool) {
         os::fail(b"error: the line can't be opened for reading and writing");
         return;
     }
-    play_all(fd, keep);
+    play(fd, keep);
     libc::close(fd);
 }
 
-// Line after line, until the script ends or something stops it.
-fn play_all(fd: i32, keep: bool) {
+// Step after step, until the script ends or something stops it.
+fn play(fd: i32, keep: bool) {
     let mut sent = [0u8; FRAME_ROOM];
     let mut answer = [0u8; FRAME_ROOM];
     let mut out = [0u8; FRAME_ROOM];
-    let mut desk = serial::fresh();
+    let mut clerk = clerk::fresh();
     let mut turns: u64 = 0;
     while turns < 0xFFFFFFFFFFFFFFFF {
-        if !desk.on {
+        turns += 1;
+        if ENDED <= clerk.phase {
+            tell::end(clerk.phase == STOPPED, clerk.lines, clerk.why);
             return;
         }
-        desk = serial::play(desk, fd, keep, &mut sent, &mut answer, &mut out);
-        turns += 1;
+        clerk = serial::next(clerk, fd, keep, &mut sent, &mut answer, &mut out);
     }
 }

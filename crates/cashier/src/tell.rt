@@ -20,8 +20,11 @@ pub(crate) fn says(word: Word, got: &[u8]) {
     io::write_all(STDOUT_FILENO, front(&text, n));
 }
 
-// What is wrong with a line of the script, or stops it.
-pub(crate) fn wrong(line: u64, why: u8) {
+// What is wrong with a line of the script, or stops it, where something does.
+pub(crate) fn end(stopped: bool, line: u64, why: u8) {
+    if !stopped {
+        return;
+    }
     let mut text = [0u8; TEXT_ROOM];
     let n = phrases::wrong(&mut text, 0, line, why);
     io::write_all(STDERR_FILENO, front(&text, n));

@@ -1,0 +1,3 @@
+mod Standing
+pub mod Ending
+pub mod Silence
