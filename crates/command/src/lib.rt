@@ -1,4 +1,6 @@
 // What the data of a command means, and its texts (PROTOCOL 5.1, 4.7).
+use display::MARK;
+use display::SHOW;
 use kinds::Command;
 use kinds::Parsed;
 use kinds::operators;
@@ -6,11 +8,6 @@ use kinds::operators::Third;
 use kinds::plain;
 ghost use mathlib.Core.Path.{_≡_};
 ghost use Rattle.command.specs.Commands.{formOf, parsedOf, firstText, secondText};
-
-// Of 100, whose data alone may hold 10h.
-const SHOW: u8 = 100;
-
-const MARK: u8 = 0x10;
 
 // Any command: its kind with its fields; or 1, where the data is not of its form; or 2, where CMD is none of the seventeen. Only in data of some
 // form is 10h looked for: long data of an unknown command costs nothing here.

@@ -10,11 +10,11 @@ ghost use Rattle.display.specs.Display.{plainOf, canShow, shownBy, displ
 // The most bytes of a plain text: so many are to be lent.
 pub const MOST_SHOWN: usize = 40;
 
-// The command that sends a text.
-const SHOW: u8 = 100;
+// The command that sends a text: its data alone may hold 10h.
+pub const SHOW: u8 = 100;
 
 // Before a byte that stands for a control character.
-const MARK: u8 = 0x10;
+pub const MARK: u8 = 0x10;
 
 // What the display is told: nothing, or that the text which is at the front of the lent buffer, with so many bytes, is to be shown.
 pub enum Display {

@@ -1,8 +1,8 @@
--- Turn by turn, whatever the buffers lent: what an answer shows is what the command did, so the entries told from the turns agree with the books.
+-- Turn by turn, whatever the buffers lent: what an answer shows is what the command did.
 use mathlib.Core.Path.{_≡_, refl, sym, ap, _∙_, subst}
 use mathlib.Core.Bool.{Bool, true, false, cond}
 use mathlib.Core.List.{List, [], _∷_, _++_, append-assoc}
-use Prim.Native.Nat.{ℕ, _+_, _-_, _≤_}
+use Prim.Native.Nat.{ℕ, _+_, _-_}
 use native.Mathlib.Omega.{arith}
 use lib.ListN.{length, take, drop, length-append}
 use lib.Seq.{take-at}
@@ -14,35 +14,30 @@ use Rattle.reader.specs.Reading.{Place, Event, nothing, brokenFrame, heard, rea
 use Rattle.kinds.specs.declared.Command.{Command}
 use Rattle.kinds.specs.declared.Command.the-variants.{Drawer}
 use Rattle.kinds.specs.declared.Parsed.{Parsed}
-use Rattle.kinds.specs.declared.Parsed.the-variants.{Read, Syntax, Unknown}
+use Rattle.kinds.specs.declared.Parsed.the-variants.{Read}
 use Rattle.kinds.specs.declared.Service.{Service}
 use Rattle.command.specs.Commands.{parsedOf}
 use Rattle.sheet.specs.Searches.{placeOf, matchOf}
-use Rattle.sheet.specs.declared.Line.{Line}
 use Rattle.books.specs.declared.Books.{Books}
 use Rattle.books.specs.declared.Shown.{Shown}
 use Rattle.books.specs.declared.Shown.the-variants as shown
 use Rattle.answers.specs.Contents.{commaEach, contentOf}
 use Rattle.answers.specs.Status.{statusOf}
 use Rattle.answers.proofs.Shown.{field-shows}
-use Rattle.deeds.specs.Deeds.{refusedWith}
 use Rattle.deeds.specs.declared.Deed.{Deed}
 use Rattle.line.specs.Turns.{was, State, Turn, Session, repeats, onEvent, turn, session}
-use Rattle.guard.specs.Guard.{calmed, trialOf, judgedOf, judgedBy}
+use Rattle.guard.specs.Guard.{judgedBy}
 use Rattle.store.specs.Store.{Store, withGuard}
-use Rattle.store.specs.Commands.{placeFor, deedOn, leftBy, leftOn}
-use Rattle.rules.specs.Views.{viewOf}
+use Rattle.store.specs.Commands.{leftBy}
 use Rattle.machine.specs.Device.{Lent, enough, lentTurn}
 use Rattle.carrying.specs.Carrying.{searchIn, deedFor, answerTo, carry}
 use Rattle.history.specs.Entries.{Entry, entryOf}
-use Rattle.history.specs.Digits.{Given}
 use Rattle.history.specs.Reached.{Reached}
 use Rattle.history.proofs.Digits.{digits-fit}
 use Rattle.history.proofs.Laws.{seventy-shows-the-drawer}
-use Rattle.promises.specs.Demand2.{Moment, comes, on-anew, alwaysLent, onTurn, turnBy, turnsOf, deviceAfter, allGiven, allCarried, dataIn, withRead, withTurn, toldBy, freshDevice, entriesOf, storeAfter, booksAfter, cashIn}
+use Rattle.promises.specs.Demand2.{Moment, comes, on-anew, alwaysLent, onTurn, turnBy, turnsOf, deviceAfter, allGiven, allCarried, dataIn, cashIn}
 use Rattle.promises.proofs.Demand1.{deed-stays}
 use Rattle.promises.proofs.DeviceRows.{again, short7}
-use Rattle.promises.proofs.Verdicts.{Right, syntax, no-kind, is-read, parsed-right}
 
 -- the data stands in an answer's frame where it is read from
 module _ (content behind frame-end bcc-part : List ℕ) where

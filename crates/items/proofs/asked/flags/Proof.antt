@@ -4,7 +4,6 @@ use Rattle.items.specs.declared.Label.the-variants as label
 use Rattle.items.specs.declared.Value.the-variants.{Said}
 use Rattle.items.specs.declared.Item.{Item}
 use Rattle.items.specs.declared.Saying.{Saying}
-use Rattle.items.specs.declared.Four.{Four}
 use borrow.Author.Needs.{needs}
 use Rattle.items.proofs.asked.flags.Statement.{statement}
 use Rattle.items.proofs.asked.flags.Tie as tie
