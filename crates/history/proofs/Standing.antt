@@ -15,7 +15,7 @@ use Rattle.sheet.specs.Sheet.{lineOf, noMatch}
 use Rattle.sheet.specs.declared.Line.{Line}
 use Rattle.sheet.specs.declared.Match.{Match}
 use Rattle.receipt.specs.Lines.{productOf, finishedOf}
-use Rattle.shares.specs.Shares.{isLess, changedBy}
+use Rattle.shares.specs.Shares.{isLess, moreOrLess}
 use Rattle.rules.specs.Views.{ofSale}
 use Rattle.rules.specs.declared.views.View.{View}
 use Rattle.rules.specs.declared.views.View.the-variants.{Opens, Sells, Adjusts, Pays, Closes, Cancels, OpensText, ClosesText, Clears, Puts, Takes, Asks}
@@ -42,7 +42,7 @@ module _ (x : Sale) (ls : List Line) (g sum off on : ℕ) where
 
 -- and a Percent or an Abs on the receipt
 adjust-worth : (less : Bool) (sum share worth off on : ℕ) → sum + off ≡ worth + on → (less ≡ true → share ≤ sum)
-    → changedBy less sum share + (off + cond less share 0) ≡ worth + (on + cond less 0 share)
+    → moreOrLess less sum share + (off + cond less share 0) ≡ worth + (on + cond less 0 share)
 adjust-worth true sum share worth off on e covered = omega (arith, covered refl)
 adjust-worth false sum share worth off on e covered = omega arith
 

@@ -6,6 +6,7 @@ use lib.Dec.{eqb}
 use Rattle.kinds.specs.declared.Adjust.{Adjust}
 use Rattle.kinds.specs.declared.Command.{Command}
 use Rattle.kinds.specs.declared.Payment.{Payment}
+use Rattle.kinds.specs.declared.Sale.{Sale}
 use Rattle.books.specs.declared.Books.{Books}
 use Rattle.books.specs.declared.Shown.{Shown}
 use Rattle.books.specs.declared.Shown.the-variants.{Nothing}
@@ -53,61 +54,32 @@ codeOf (Asks when shown) = 0
 abbrev pub does : ℕ → View → Bool
 does code v = eqb (codeOf v) code
 
--- what a payment, 51 with a Percent or an Abs, 70 with an amount, and a command that only asks hold; of every other view `none` (of a line: `ofSale` of the
--- views)
+-- what a view holds, asked of each in its own way: a line, 51 with a Percent or an Abs, a payment, 70 with an amount, a command that only asks; of a view
+-- that holds nothing it is `none`
 module _ {A : Type 0} (none : A) where
-  abbrev pub ofPayment : (Payment → A) → View → A
-  ofPayment f Opens = none
-  ofPayment f (Sells s) = none
-  ofPayment f (Adjusts a) = none
-  ofPayment f (Pays p) = f p
-  ofPayment f Closes = none
-  ofPayment f Cancels = none
-  ofPayment f OpensText = none
-  ofPayment f ClosesText = none
-  ofPayment f Clears = none
-  ofPayment f (Puts n) = none
-  ofPayment f (Takes n) = none
-  ofPayment f (Asks when shown) = none
+  abbrev pub ofView : (Sale → A) → (Adjust → A) → (Payment → A) → (puts takes : ℕ → A) → (Shown → A) → View → A
+  ofView sells adjusts pays puts takes asks Opens = none
+  ofView sells adjusts pays puts takes asks (Sells s) = sells s
+  ofView sells adjusts pays puts takes asks (Adjusts a) = adjusts a
+  ofView sells adjusts pays puts takes asks (Pays p) = pays p
+  ofView sells adjusts pays puts takes asks Closes = none
+  ofView sells adjusts pays puts takes asks Cancels = none
+  ofView sells adjusts pays puts takes asks OpensText = none
+  ofView sells adjusts pays puts takes asks ClosesText = none
+  ofView sells adjusts pays puts takes asks Clears = none
+  ofView sells adjusts pays puts takes asks (Puts n) = puts n
+  ofView sells adjusts pays puts takes asks (Takes n) = takes n
+  ofView sells adjusts pays puts takes asks (Asks when shown) = asks shown
 
+  -- one of them, and `none` of all others (of a line: `ofSale` of the views)
   abbrev pub ofAdjust : (Adjust → A) → View → A
-  ofAdjust f Opens = none
-  ofAdjust f (Sells s) = none
-  ofAdjust f (Adjusts a) = f a
-  ofAdjust f (Pays p) = none
-  ofAdjust f Closes = none
-  ofAdjust f Cancels = none
-  ofAdjust f OpensText = none
-  ofAdjust f ClosesText = none
-  ofAdjust f Clears = none
-  ofAdjust f (Puts n) = none
-  ofAdjust f (Takes n) = none
-  ofAdjust f (Asks when shown) = none
+  ofAdjust f = ofView (λ s. none) f (λ p. none) (λ n. none) (λ n. none) (λ shown. none)
+
+  abbrev pub ofPayment : (Payment → A) → View → A
+  ofPayment f = ofView (λ s. none) (λ a. none) f (λ n. none) (λ n. none) (λ shown. none)
 
   abbrev pub ofService : (puts takes : ℕ → A) → View → A
-  ofService f g Opens = none
-  ofService f g (Sells s) = none
-  ofService f g (Adjusts a) = none
-  ofService f g (Pays p) = none
-  ofService f g Closes = none
-  ofService f g Cancels = none
-  ofService f g OpensText = none
-  ofService f g ClosesText = none
-  ofService f g Clears = none
-  ofService f g (Puts n) = f n
-  ofService f g (Takes n) = g n
-  ofService f g (Asks when shown) = none
+  ofService f g = ofView (λ s. none) (λ a. none) (λ p. none) f g (λ shown. none)
 
   abbrev pub ofAsked : (Shown → A) → View → A
-  ofAsked f Opens = none
-  ofAsked f (Sells s) = none
-  ofAsked f (Adjusts a) = none
-  ofAsked f (Pays p) = none
-  ofAsked f Closes = none
-  ofAsked f Cancels = none
-  ofAsked f OpensText = none
-  ofAsked f ClosesText = none
-  ofAsked f Clears = none
-  ofAsked f (Puts n) = none
-  ofAsked f (Takes n) = none
-  ofAsked f (Asks when shown) = f shown
+  ofAsked f = ofView (λ s. none) (λ a. none) (λ p. none) (λ n. none) (λ n. none) f

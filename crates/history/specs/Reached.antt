@@ -7,7 +7,7 @@ use Rattle.kinds.specs.declared.Adjust.{Adjust}
 use Rattle.sheet.specs.declared.Note.the-variants as note
 use Rattle.receipt.specs.Receipts.{emptyReceipt}
 use Rattle.receipt.specs.declared.Receipt.{Receipt}
-use Rattle.shares.specs.Shares.{sizeOf, isLess, changedBy, shareAt}
+use Rattle.shares.specs.Shares.{sizeOf, isLess, moreOrLess, shareAt}
 use Rattle.books.specs.Books.{fiscalOpen, withReceipt}
 use Rattle.books.specs.Groups.{eight, at, sum}
 use Rattle.books.specs.Sound.{sound}
@@ -34,16 +34,16 @@ pub record DayCleared (before after : Books) : Type 0 where
   pub opened : after .opened ≡ before .opened
 
 -- PROTOCOL 6.8: a group's share in a Percent or an Abs on a receipt
-abbrev pub shareIn : Receipt → Adjust → (g : ℕ) → ℕ
-shareIn r a = shareAt (sizeOf (r .total) a) (r .total) (at (r .groups))
+abbrev pub shareOn : Receipt → Adjust → (g : ℕ) → ℕ
+shareOn r a = shareAt (sizeOf (r .total) a) (r .total) (at (r .groups))
 
 -- PROTOCOL 5.5, 6.8: what 51 with a Percent or an Abs makes of the books: the shares come to its size, and nothing else is changed
 pub record SharedOut (a : Adjust) (before after : Books) : Type 0 where
-  pub shares : sum (eight (shareIn (before .receipt) a)) ≡ sizeOf (before .receipt .total) a
-  pub groups : (g : ℕ) → g < 8 → at (after .receipt .groups) g ≡ changedBy (isLess a) (at (before .receipt .groups) g) (shareIn (before .receipt) a g)
+  pub shares : sum (eight (shareOn (before .receipt) a)) ≡ sizeOf (before .receipt .total) a
+  pub groups : (g : ℕ) → g < 8 → at (after .receipt .groups) g ≡ moreOrLess (isLess a) (at (before .receipt .groups) g) (shareOn (before .receipt) a g)
   -- no group falls below zero
-  pub covered : isLess a ≡ true → (g : ℕ) → g < 8 → shareIn (before .receipt) a g ≤ at (before .receipt .groups) g
-  pub total : after .receipt .total ≡ changedBy (isLess a) (before .receipt .total) (sizeOf (before .receipt .total) a)
+  pub covered : isLess a ≡ true → (g : ℕ) → g < 8 → shareOn (before .receipt) a g ≤ at (before .receipt .groups) g
+  pub total : after .receipt .total ≡ moreOrLess (isLess a) (before .receipt .total) (sizeOf (before .receipt .total) a)
   pub summed : after .receipt .total ≡ sum (eight (at (after .receipt .groups)))
   -- it is no line, and no payment
   pub lines : after .receipt .lines ≡ before .receipt .lines
