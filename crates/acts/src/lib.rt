@@ -1,4 +1,6 @@
 // Every command carried out, on any books (PROTOCOL chapter 5).
+#![tactic(auto)]
+
 pub mod fiscal;
 
 ghost use Rattle.std.specs.Prelude.{◌≡◌};

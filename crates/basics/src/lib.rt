@@ -1,4 +1,6 @@
 // What every room needs of numbers: the lesser of two, and a difference that stops at zero.
+#![tactic(auto)]
+
 ghost use Rattle.std.specs.Prelude.{◌≡◌, ◌-◌, min};
 
 // The lesser of two sums.

@@ -1,5 +1,7 @@
 // Both ends on one table: a script on standard input (docs/SCRIPTS.md), a till end, a fresh device, and a line between them that does to
 // tries and answers what the script says. It tells what each of them does.
+#![tactic(auto)]
+
 mod around;
 mod tell;
 

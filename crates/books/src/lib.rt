@@ -1,4 +1,6 @@
 // The books: what the device remembers of receipts, day and drawer (PROTOCOL 8.3).
+#![tactic(auto)]
+
 pub mod parts;
 pub mod rates;
 pub mod registers;
@@ -10,7 +12,7 @@ ghost use Rattle.books.specs.Books.{fresh_books};
 use receipt::Receipt;
 
 // Which receipt is open.
-#[derive(Drop)]
+#[derive(Clone, Copy)]
 pub enum Opened {
     Nothing,
     Fiscal,
@@ -18,14 +20,14 @@ pub enum Opened {
 }
 
 // Receipts of both kinds, and fiscal ones, opened since the last closing.
-#[derive(Drop)]
+#[derive(Clone, Copy)]
 pub struct Counters {
     pub all: u64,
     pub fiscal: u64,
 }
 
 // Cash, and the service sums of the day.
-#[derive(Drop)]
+#[derive(Clone, Copy)]
 pub struct Drawer {
     pub cash: u64,
     pub put: u64,
@@ -33,13 +35,13 @@ pub struct Drawer {
 }
 
 // The fiscal memory: closings made so far, and the total over them.
-#[derive(Drop)]
+#[derive(Clone, Copy)]
 pub struct Memory {
     pub closings: u64,
     pub total: u64,
 }
 
-#[derive(Drop)]
+#[derive(Clone, Copy)]
 pub struct Books {
     pub opened: Opened,
     pub receipt: Receipt,
@@ -52,7 +54,7 @@ pub struct Books {
 }
 
 // What an answer shows of the books.
-#[derive(Drop)]
+#[derive(Clone, Copy)]
 pub enum Shown {
     Nothing,
     All,

@@ -1,4 +1,6 @@
 // What the lines of a telling are called (EXPLAIN 2). Each table is one text, a row to a line.
+#![tactic(auto)]
+
 ghost use Rattle.std.specs.Prelude.{◌≡◌};
 ghost use Rattle.sentences.specs.Put.{Put};
 ghost use Rattle.captions.specs.Captions.{label_word, saying_word, kind_word};

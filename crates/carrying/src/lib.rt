@@ -1,4 +1,6 @@
 // A whole frame carried out (PROTOCOL 1.11): its command read, judged and done, and its answer built.
+#![tactic(auto)]
+
 ghost use Rattle.std.specs.Prelude.{◌≡◌, ◌≤◌, length};
 ghost use Rattle.carrying.specs.Carrying.{search_in, deed_for};
 ghost use Rattle.carrying.specs.Work.{worked, work_done, size_of};
@@ -11,7 +13,7 @@ use sheet::{Match, Note, Search};
 use wire::{ANSWER_ROOM, Built, build};
 
 // A command carried out: what is given back is the first `count` bytes of the lent buffer; the note is for the sheet.
-#[derive(Drop)]
+#[derive(Clone, Copy)]
 pub struct Work {
     pub number: u64,
     pub books: Books,

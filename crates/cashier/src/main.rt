@@ -1,5 +1,7 @@
 // A script (docs/SCRIPTS.md) sent over a real line: cashier [-k] -l LINE. One line a command; it stops at one that ends UNFINISHED, unless
 // told -k.
+#![tactic(auto)]
+
 mod serial;
 mod tell;
 

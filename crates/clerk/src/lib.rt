@@ -1,5 +1,7 @@
 // A script sent over a real line (SCRIPTS 8, LINE 5): what a read means, when a frame is sent again, and when the script stops. Numbers alone are
 // held here; arrays are lent.
+#![tactic(auto)]
+
 ghost use Rattle.std.specs.Prelude.{◌≡◌, cond};
 ghost use Rattle.exchange.specs.Exchange.{heard_some, heard_back};
 ghost use Rattle.clerk.specs.Clerk.{fresh_clerk, end_of, next_of, behind, begun, halted, line_of, written_by, read_by, heard_by, stops, told_of};
@@ -32,7 +34,7 @@ pub const NO_FAULTS: u8 = 6;
 pub const UNFINISHED: u8 = 7;
 
 // The till end and its last word; the lines of the script so far, and what stopped it; the reads that are left to the try under way.
-#[derive(Drop)]
+#[derive(Clone, Copy)]
 pub struct Clerk {
     pub till: Till,
     pub word: Word,

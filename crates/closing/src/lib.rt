@@ -1,4 +1,6 @@
 // What is told at the end of a script: the books, and how the commands ended (SCRIPTS 7), put into a lent buffer.
+#![tactic(auto)]
+
 ghost use Rattle.std.specs.Prelude.{◌≡◌};
 ghost use Rattle.sentences.specs.Put.{Put};
 ghost use Rattle.closing.specs.Closing.{figures_of, books_text, total_text};

@@ -1,4 +1,6 @@
 // What the data of a command means, and its texts (PROTOCOL 5.1, 4.7).
+#![tactic(auto)]
+
 ghost use Rattle.std.specs.Prelude.{◌≡◌};
 ghost use Rattle.command.specs.Commands.{form_of, parsed_of, first_text, second_text};
 

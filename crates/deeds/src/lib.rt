@@ -1,4 +1,6 @@
 // What each command does to the books, judged alone (PROTOCOL chapter 5).
+#![tactic(auto)]
+
 pub mod drawer;
 pub mod sales;
 pub mod texts;
@@ -14,7 +16,7 @@ use rules::views::When;
 use sheet::Note;
 
 // The books afterwards, with the reply number, what the answer shows, and what is left in the sheet.
-#[derive(Drop)]
+#[derive(Clone, Copy)]
 pub struct Deed {
     pub number: u64,
     pub books: Books,

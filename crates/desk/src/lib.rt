@@ -1,4 +1,6 @@
 // What stands around the device on a bench: the script, the till end, and the line between them. Numbers alone are held here; arrays are lent.
+#![tactic(auto)]
+
 ghost use Rattle.std.specs.Prelude.{◌≡◌, [], length, take};
 ghost use Rattle.std.proofs.lemmas.List.Edits.{sets};
 ghost use Rattle.exchange.specs.Exchange.{heard_back};
@@ -30,7 +32,7 @@ pub const ENDED: u8 = 3;
 
 pub const STOPPED: u8 = 4;
 
-#[derive(Drop)]
+#[derive(Clone, Copy)]
 pub struct Desk {
     pub till: Till,
     pub faults: Faults,
@@ -46,7 +48,7 @@ pub struct Desk {
 }
 
 // The desk behind an event at the till end, and the till end's word.
-#[derive(Drop)]
+#[derive(Clone, Copy)]
 pub struct Told {
     pub desk: Desk,
     pub word: Word,

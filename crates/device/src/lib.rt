@@ -1,4 +1,6 @@
 // The device: bytes in; nothing, NAK or a whole answer out (PROTOCOL 1.1).
+#![tactic(auto)]
+
 ghost use Rattle.std.specs.Prelude.{◌≡◌, ◌≤◌, length, drop};
 ghost use Rattle.machine.specs.Hearing.{part_of, after_part};
 

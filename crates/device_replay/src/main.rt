@@ -1,4 +1,6 @@
 // A device told of a list of events, and what it gives back on each. The crate `events` says what an event is and what it lends.
+#![tactic(auto)]
+
 use display::{Display, MOST_SHOWN};
 use events::{DEVICE_ROOM, End, Lent};
 use feeding::Fed;

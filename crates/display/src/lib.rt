@@ -1,4 +1,6 @@
 // The text that 100 sends to the customer display (PROTOCOL 5.17).
+#![tactic(auto)]
+
 ghost use Rattle.std.specs.Prelude.{◌≡◌, cond, not, ◌&&◌, ◌-◌, eqb, length};
 ghost use Rattle.std.proofs.lemmas.List.Edits.{sets};
 ghost use Rattle.display.specs.Display.{plain_of, can_show, shown_by, display_of, displayed};
@@ -13,7 +15,7 @@ pub const SHOW: u8 = 100;
 pub const MARK: u8 = 0x10;
 
 // What the display is told: nothing, or that the text which is at the front of the lent buffer, with so many bytes, is to be shown.
-#[derive(Drop)]
+#[derive(Clone, Copy)]
 pub enum Display {
     Stays,
     Shows(usize),

@@ -1,5 +1,7 @@
 // The lines of a telling, each a label and a value, put into a lent buffer one behind the other (EXPLAIN 2). Each function says the place behind
 // its text, or the buffer's end.
+#![tactic(auto)]
+
 ghost use Rattle.std.specs.Prelude.{◌++◌};
 ghost use Rattle.letters.specs.Letters.{bytes};
 ghost use Rattle.sentences.specs.Put.{Put};

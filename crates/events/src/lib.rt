@@ -1,4 +1,6 @@
 // The events that the replay programs are told of: how many bytes one has, and what one lends to a device (README, *For the apprentice*).
+#![tactic(auto)]
+
 ghost use Rattle.std.specs.Prelude.{◌≡◌, cond, ◌+◌, ◌*◌, ◌<◌, eqb, get_or};
 ghost use Rattle.events.specs.Events.{device_event, till_event, event_of, switches_on, lent_by};
 
@@ -9,14 +11,14 @@ pub const DEVICE_ROOM: usize = 5;
 pub const TILL_ROOM: usize = 259;
 
 // Which end is told of events.
-#[derive(Drop)]
+#[derive(Clone, Copy)]
 pub enum End {
     Device,
     Till,
 }
 
 // What an event lends to a device: bytes of the buffer, lines of the sheet, bytes for the display; and its byte.
-#[derive(Drop)]
+#[derive(Clone, Copy)]
 pub struct Lent {
     pub room: usize,
     pub lines: usize,

@@ -1,4 +1,6 @@
 // The till end hears what came back on a try (PROTOCOL 7.5).
+#![tactic(auto)]
+
 ghost use Rattle.std.specs.Prelude.{◌≡◌};
 ghost use Rattle.exchange.specs.Exchange.{waits, heard_some, heard_back};
 

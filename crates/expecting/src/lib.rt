@@ -1,4 +1,6 @@
 // Which bytes suit the next place of a command's frame (PROTOCOL 1.2, 1.7): what was expected where a frame broke.
+#![tactic(auto)]
+
 ghost use Rattle.std.specs.Prelude.{◌≡◌, ◌++◌, get_or};
 ghost use Rattle.reader.specs.Fields.{place_of};
 ghost use Rattle.expecting.specs.Expecting.{expected_at, front_parts, ending_parts, behind_all};
@@ -7,7 +9,7 @@ use reader::Reader;
 use wire::{Way, suit};
 
 // The parts of a frame; Nothing stands behind its last byte.
-#[derive(Drop)]
+#[derive(Clone, Copy)]
 pub enum Part {
     Start,
     Len,
@@ -21,7 +23,7 @@ pub enum Part {
 }
 
 // A part, and the bytes from the least to the most that suit it; as data Tab, line feed and 10h suit too.
-#[derive(Drop)]
+#[derive(Clone, Copy)]
 pub struct Expected {
     pub part: Part,
     pub least: u8,

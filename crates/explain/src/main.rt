@@ -1,5 +1,7 @@
 // A recording told for a class: each frame with its command and fields in words, what the device replied and why, its answer and status.
 // explain [-html] [RECORDING]; without a name the recording is standard input.
+#![tactic(auto)]
+
 mod recital;
 
 use libc::{STDERR_FILENO, STDIN_FILENO, STDOUT_FILENO};

@@ -16,7 +16,7 @@ const TELLING_ROOM: usize = 16384;
 const PART_ROOM: usize = 4096;
 
 // Bytes of a part that are not yet heard: from a place to the end of what was read.
-#[derive(Drop)]
+#[derive(Clone, Copy)]
 struct Span {
     from: usize,
     count: usize,

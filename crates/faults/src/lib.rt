@@ -1,4 +1,6 @@
 // What the line does to the tries of a command and to their answers: a byte becomes another one, or nothing arrives (PROTOCOL 9.1).
+#![tactic(auto)]
+
 ghost use Rattle.std.specs.Prelude.{◌≡◌, ℕ, ◌<◌, min, List, length};
 ghost use Rattle.std.proofs.lemmas.List.Edits.{sets};
 ghost use Rattle.faults.specs.Faults.{no_faults, spot_of, with_fault, fault_of, arrived_of, replaced};
@@ -12,7 +14,7 @@ const TRIES: usize = 5;
 const SPOTS: usize = 10;
 
 // What happens to some bytes on their way. Places count from 1.
-#[derive(Drop)]
+#[derive(Clone, Copy)]
 pub enum Fault {
     Nothing,
     Becomes { place: usize, byte: u8 },
@@ -20,13 +22,13 @@ pub enum Fault {
 }
 
 // What happens to one try or one answer.
-#[derive(Drop)]
+#[derive(Clone, Copy)]
 pub struct Spot {
     pub fault: Fault,
 }
 
 // What happens to the tries of a command, and behind them to the answers.
-#[derive(Drop)]
+#[derive(Clone, Copy)]
 pub struct Faults {
     pub spots: [Spot; SPOTS],
 }

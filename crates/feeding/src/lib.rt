@@ -1,5 +1,7 @@
 // The events of a replay, read from standard input one by one. What the system reads no contract can say: what is promised holds for whatever it
 // answers. What is decided is in `events`.
+#![tactic(auto)]
+
 ghost use Rattle.std.specs.Prelude.{◌<◌, ◌≤◌, length};
 ghost use Rattle.feeding.specs.Feeding.{Event};
 
@@ -7,7 +9,7 @@ use events::End;
 use libc::STDIN_FILENO;
 
 // What was read: an event of so many bytes; the input's end, or what can't be read; what is cut short or none, or too long for the buffer.
-#[derive(Drop)]
+#[derive(Clone, Copy)]
 pub enum Fed {
     Whole(usize),
     Ended,

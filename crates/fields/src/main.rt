@@ -1,4 +1,6 @@
 // What each of a list of commands is read as. A record is the command's number, the number of its data bytes, and the data.
+#![tactic(auto)]
+
 ghost use Rattle.io.specs.Counts.{IsPrefixLen};
 
 use kinds::{Adjust, Command, Mode, Parsed, Password, Payment, Sale, Service, Tender};

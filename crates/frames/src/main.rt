@@ -1,4 +1,6 @@
 // The protocol papers' own frames: each is built, read back, and broken by one byte.
+#![tactic(auto)]
+
 ghost use Rattle.std.specs.Prelude.{◌≤◌};
 
 use libc::STDOUT_FILENO;

@@ -1,4 +1,6 @@
 // The second half of a call of the device: what was asked for is given (PROTOCOL 1.10, 1.11, 2.5). It does not touch the sheet.
+#![tactic(auto)]
+
 ghost use Rattle.std.specs.Prelude.{◌≡◌, ◌≤◌, length};
 ghost use Rattle.std.proofs.lemmas.List.Edits.{sets};
 ghost use Rattle.sheet.specs.Sheet.{match_at};
@@ -15,7 +17,7 @@ use sheet::{Line, Note, Writes};
 use wire::ANSWER_ROOM;
 
 // What the call brought, and what is to be written into the sheet.
-#[derive(Drop)]
+#[derive(Clone, Copy)]
 pub struct Ended {
     pub hearing: Hearing,
     pub writes: Writes,

@@ -1,4 +1,6 @@
 // The guard of the eight operators: their passwords and names, and how many wrong passwords were given (PROTOCOL 5.18 to 5.20).
+#![tactic(auto)]
+
 mod changes;
 
 ghost use Rattle.std.specs.Prelude.{◌≡◌};
@@ -17,7 +19,7 @@ pub const MOST_WRONG: u64 = 3;
 
 // Of each operator the digits of the password and what they come to, the length of the name and its 24 bytes; and the wrong passwords with
 // no right one between. Three of them are the lock.
-#[derive(Drop)]
+#[derive(Clone, Copy)]
 pub struct Guard {
     pub digits: [usize; OPERATORS],
     pub values: [u64; OPERATORS],
@@ -27,7 +29,7 @@ pub struct Guard {
 }
 
 // The password that a command gives, whose it is, and what for: 48, 101 and 102. The name of a 102 stays in the data.
-#[derive(Drop)]
+#[derive(Clone, Copy)]
 pub enum Trial {
     Nothing,
     Open {
@@ -46,7 +48,7 @@ pub enum Trial {
 }
 
 // What the guard says to it.
-#[derive(Drop)]
+#[derive(Clone, Copy)]
 pub enum Verdict {
     Free,
     Right,
@@ -55,7 +57,7 @@ pub enum Verdict {
 }
 
 // The guard behind a command, and whether the command goes on.
-#[derive(Drop)]
+#[derive(Clone, Copy)]
 pub struct Judged {
     pub guard: Guard,
     pub passes: bool,

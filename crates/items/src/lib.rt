@@ -1,4 +1,6 @@
 // What is told of a frame, line by line: a label and a value each (EXPLAIN 2).
+#![tactic(auto)]
+
 pub mod asked;
 
 ghost use Rattle.std.specs.Prelude.{◌≡◌, cond, eqb};
@@ -9,7 +11,7 @@ use expecting::{Expected, Part};
 use line::Call;
 
 // What a line is about.
-#[derive(Drop)]
+#[derive(Clone, Copy)]
 pub enum Label {
     Frame,
     Seq,
@@ -50,7 +52,7 @@ pub enum Label {
 }
 
 // A value that is said in words.
-#[derive(Drop)]
+#[derive(Clone, Copy)]
 pub enum Saying {
     Yes,
     No,
@@ -77,7 +79,7 @@ pub enum Saying {
 
 // A value: sums in stotinki, percents in hundredths, quantities in thousandths; a number in so many digits; a letter; a byte, or the bytes from
 // one to another; those that stand in data.
-#[derive(Drop)]
+#[derive(Clone, Copy)]
 pub enum Value {
     Nothing,
     Number(u64),
@@ -92,14 +94,14 @@ pub enum Value {
 }
 
 // A line; with the value Nothing there is none.
-#[derive(Drop)]
+#[derive(Clone, Copy)]
 pub struct Item {
     pub label: Label,
     pub value: Value,
 }
 
 // Up to four lines.
-#[derive(Drop)]
+#[derive(Clone, Copy)]
 pub struct Four {
     pub first: Item,
     pub second: Item,
@@ -108,7 +110,7 @@ pub struct Four {
 }
 
 // What became of a frame, or of bytes outside frames.
-#[derive(Drop)]
+#[derive(Clone, Copy)]
 pub enum Kind {
     Done,
     Refused,

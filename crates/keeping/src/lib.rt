@@ -1,5 +1,7 @@
 // What the keeper of a recording decides: what a read is taken for, whether the recording is as long as what was heard, where the name
 // of its folder ends (LINE 2 and 3).
+#![tactic(auto)]
+
 ghost use Rattle.std.specs.Prelude.{◌≡◌, not, ◌+◌, ◌/◌, min, eqb};
 ghost use Rattle.keeping.specs.Stages.{first_stage, stage_at, stage_anew, source_of, stage_after, goes_out};
 ghost use Rattle.keeping.specs.Keeping.{taken_for, some_read, none_read, size_of, is_whole, behind_last};
@@ -14,7 +16,7 @@ const MOST: u64 = 0xFFFFFFFFFFFFFFFF;
 const SLASH: u8 = b'/';
 
 // Where bytes come from.
-#[derive(Drop)]
+#[derive(Clone, Copy)]
 pub enum Source {
     Recording,
     Input,
@@ -23,7 +25,7 @@ pub enum Source {
 
 // What a read is taken for: bytes heard silently, the end of a recording that another follows, the end of the replay, bytes heard and answered, a silence, the end, a line that is
 // closed, what can't be read.
-#[derive(Drop)]
+#[derive(Clone, Copy)]
 pub enum Next {
     Silent,
     Anew,
@@ -37,7 +39,7 @@ pub enum Next {
 
 // How far it is: whether a recording is still replayed, whether the device is to be switched on anew for the next one, how many bytes of the
 // recording were heard with the part that was read last, how many bytes that part has, and whether all is over.
-#[derive(Drop)]
+#[derive(Clone, Copy)]
 pub struct Stage {
     pub replays: bool,
     pub anew: bool,

@@ -1,4 +1,6 @@
 // A device with its sheet by value, for callers that cannot lend a slice of records (DECISIONS 72).
+#![tactic(auto)]
+
 ghost use Rattle.std.specs.Prelude.{◌≡◌, ◌≤◌, drop};
 ghost use Rattle.machine.specs.Hearing.{part_of, after_part};
 ghost use Rattle.kept.specs.ByValue.{machine_of, next_of, fresh_kept, kept_anew};
@@ -12,7 +14,7 @@ use sheet::{Line, MOST_LINES};
 use wire::ANSWER_ROOM;
 
 // A device and the 512 records of its sheet.
-#[derive(Drop)]
+#[derive(Clone, Copy)]
 pub struct Kept {
     pub device: Device,
     pub sheet: [Line; MOST_LINES],
@@ -20,7 +22,7 @@ pub struct Kept {
 
 // A call: the device and its sheet behind it, what the bytes asked for, the reply number, the bytes given back, what the display shows,
 // the bytes taken.
-#[derive(Drop)]
+#[derive(Clone, Copy)]
 pub struct Next {
     pub kept: Kept,
     pub call: Call,
@@ -31,7 +33,7 @@ pub struct Next {
 }
 
 // What a call brought, and the sheet behind it.
-#[derive(Drop)]
+#[derive(Clone, Copy)]
 struct KeptHearing {
     hearing: Hearing,
     sheet: [Line; MOST_LINES],

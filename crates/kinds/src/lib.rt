@@ -1,16 +1,18 @@
 // The seventeen kinds of command, each with its own fields (PROTOCOL 5.1), and the forms that name no sum.
+#![tactic(auto)]
+
 pub mod operators;
 pub mod plain;
 
 // Compared digit by digit, so with the number of its digits: 00000 is not 0000.
-#[derive(Drop)]
+#[derive(Clone, Copy)]
 pub struct Password {
     pub digits: usize,
     pub value: u64,
 }
 
 // What is done to a line behind its product, or to a receipt's total: percents in hundredths, amounts in stotinki.
-#[derive(Drop)]
+#[derive(Clone, Copy)]
 pub enum Adjust {
     Nothing,
     PercentMore(u64),
@@ -20,7 +22,7 @@ pub enum Adjust {
 }
 
 // A line of a receipt: price in stotinki, quantity in thousandths, the group from 0.
-#[derive(Drop)]
+#[derive(Clone, Copy)]
 pub struct Sale {
     pub group: u64,
     pub minus: bool,
@@ -30,7 +32,7 @@ pub struct Sale {
 }
 
 // P, N, C, D or U, B or E.
-#[derive(Drop)]
+#[derive(Clone, Copy)]
 pub enum Mode {
     Cash,
     N,
@@ -40,21 +42,21 @@ pub enum Mode {
 }
 
 // What is paid at 53: the whole rest, or an amount in stotinki.
-#[derive(Drop)]
+#[derive(Clone, Copy)]
 pub enum Tender {
     Rest,
     Amount(u64),
 }
 
 // 53: in what, and how much.
-#[derive(Drop)]
+#[derive(Clone, Copy)]
 pub struct Payment {
     pub mode: Mode,
     pub tender: Tender,
 }
 
 // 70: a report, or an amount put into the drawer or taken out.
-#[derive(Drop)]
+#[derive(Clone, Copy)]
 pub enum Service {
     Report,
     In(u64),
@@ -63,7 +65,7 @@ pub enum Service {
 
 // The seventeen kinds. The texts of 42, 49, 53 and 100 and the name of 102 stay in the data: `first_text` and `second_text` of `command` hand out the
 // printed ones, `display::show` the one that is shown, `operators::name_in` the name.
-#[derive(Drop)]
+#[derive(Clone, Copy)]
 pub enum Command {
     OpenText,
     CloseText,
@@ -104,7 +106,7 @@ pub enum Command {
 }
 
 // A command, or reply number 1 or 2.
-#[derive(Drop)]
+#[derive(Clone, Copy)]
 pub enum Parsed {
     Read(Command),
     Syntax,

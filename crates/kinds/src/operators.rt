@@ -6,7 +6,7 @@ use crate::{Command, Parsed, Password};
 use figures::Number;
 
 // What stands behind Op and Pwd: of 48 Till, of 101 the new password, of 102 the name.
-#[derive(Drop)]
+#[derive(Clone, Copy)]
 pub enum Third {
     Till,
     Password,

@@ -1,4 +1,6 @@
 // The texts before a Tab, and the text of 42: each is handed on as a part of the lent data (PROTOCOL 4.7).
+#![tactic(auto)]
+
 ghost use Rattle.std.specs.Prelude.{◌≡◌};
 ghost use Rattle.labels.specs.Texts.{text_within, is_text, is_name, are_texts, rest_of, only_line, first_line, second_line};
 
@@ -17,7 +19,7 @@ const LF: u8 = 0x0A;
 const TAB: u8 = 0x09;
 
 // Where the rest behind the texts and their Tab begins, or syntax: reply number 1.
-#[derive(Drop)]
+#[derive(Clone, Copy)]
 pub enum Found {
     At(usize),
     NotThere,

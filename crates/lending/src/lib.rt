@@ -1,4 +1,6 @@
 // A device that is lent as many lines of its sheet as its caller says (PROTOCOL 2.4, DECISIONS 72).
+#![tactic(auto)]
+
 ghost use Rattle.std.specs.Prelude.{◌≡◌, ◌≤◌, ◌<◌, min, drop};
 ghost use Rattle.machine.specs.Hearing.{after_part};
 ghost use Rattle.kept.specs.ByValue.{machine_of, next_with};

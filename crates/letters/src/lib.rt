@@ -1,1 +1,2 @@
 // Texts that a reader can read, for definitions. Definitions alone; no code of its own.
+#![tactic(auto)]

@@ -1,4 +1,6 @@
 // As much as a receipt and a frame hold, and one more (PROTOCOL 8.1, 8.2).
+#![tactic(auto)]
+
 use display::MOST_SHOWN;
 use kept::{Kept, Next};
 use libc::STDOUT_FILENO;

@@ -1,4 +1,6 @@
 // The line: what bytes ask of the device. A quiet byte moves a few scalars; the frame before and the books are not touched.
+#![tactic(auto)]
+
 ghost use Rattle.std.specs.Prelude.{◌≡◌};
 ghost use Rattle.reader.specs.Reading.{outside};
 ghost use Rattle.reader.specs.Fields.{reader_of};
@@ -9,14 +11,14 @@ ghost use Rattle.line.specs.declared.Previous.TheVariants.{Nothing};
 use reader::{FRAME_ROOM, Heard, Reader};
 
 // The whole frame before. Its answer is the first `count` bytes of a lent array.
-#[derive(Drop)]
+#[derive(Clone, Copy)]
 pub enum Previous {
     Nothing,
     Frame { seq: u8, code: u8, count: usize },
 }
 
 // The device's end of the line: where reading stands, and the frame before.
-#[derive(Drop)]
+#[derive(Clone, Copy)]
 pub struct Port {
     pub reader: Reader,
     pub previous: Previous,
@@ -26,7 +28,7 @@ pub struct Port {
 pub const MOST_HELD: usize = 253;
 
 // An order's data stands in the lent frame from its fourth byte on.
-#[derive(Drop)]
+#[derive(Clone, Copy)]
 pub enum Call {
     Quiet,
     Nak,
@@ -35,7 +37,7 @@ pub enum Call {
 }
 
 // Bytes of a lent part, up to and including the first that asks for something: what it asks, and how many they were.
-#[derive(Drop)]
+#[derive(Clone, Copy)]
 pub struct Listened {
     pub line: Port,
     pub call: Call,

@@ -10,14 +10,14 @@ use sentences::front;
 const TOO_LONG: u8 = 3;
 
 // A line that was read: how many bytes it has, and whether there is one. Behind the last line, and where the input can't be read, there is none.
-#[derive(Drop)]
+#[derive(Clone, Copy)]
 pub struct Typed {
     pub count: usize,
     pub there: bool,
 }
 
 // What the next line says, and the line that says it.
-#[derive(Drop)]
+#[derive(Clone, Copy)]
 pub struct Next {
     pub act: Act,
     pub count: usize,

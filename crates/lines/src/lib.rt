@@ -1,4 +1,6 @@
 // The lines of a script: read on standard input, and gathered from the parts in which they come (SCRIPTS 1).
+#![tactic(auto)]
+
 pub mod input;
 
 ghost use Rattle.std.specs.Prelude.{◌≡◌, ◌+◌, min};
@@ -10,7 +12,7 @@ ghost use Rattle.lines.specs.Lines.{most, gathered};
 pub const LINE_ROOM: usize = 1200;
 
 // What a part brings to the line that is gathered: how many bytes the line has now, how many of the part it took, and whether it is whole.
-#[derive(Drop)]
+#[derive(Clone, Copy)]
 pub struct Gathered {
     pub count: usize,
     pub taken: usize,

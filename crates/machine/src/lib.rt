@@ -1,4 +1,6 @@
 // The device as it stands between two bytes, and the first half of a call of it, which does not touch the sheet (PROTOCOL 1.1, 8.3).
+#![tactic(auto)]
+
 ghost use Rattle.std.specs.Prelude.{◌≡◌, length, drop};
 ghost use Rattle.display.specs.Display.{displayed};
 ghost use Rattle.machine.specs.Device.{fresh_fields, fields_anew};
@@ -14,7 +16,7 @@ use sheet::{Line, MOST_LINES, Search};
 use wire::ANSWER_ROOM;
 
 // What a device holds by value; its two arrays and the sheet are lent with every call, as it left them.
-#[derive(Drop)]
+#[derive(Clone, Copy)]
 pub struct Device {
     pub line: Port,
     pub books: Books,
@@ -22,7 +24,7 @@ pub struct Device {
 }
 
 // What a byte brought: the device afterwards, the reply number, how many bytes of the lent buffer are given back, and what the display shows.
-#[derive(Drop)]
+#[derive(Clone, Copy)]
 pub struct Given {
     pub device: Device,
     pub number: u64,
@@ -31,7 +33,7 @@ pub struct Given {
 }
 
 // What a part of the line's bytes brought: what the last byte taken asked for and what it was given, and how many bytes were taken.
-#[derive(Drop)]
+#[derive(Clone, Copy)]
 pub struct Hearing {
     pub given: Given,
     pub call: Call,
@@ -39,7 +41,7 @@ pub struct Hearing {
 }
 
 // A command's data as read, what it looks for in the sheet, what it shows, the guard behind it, and whether that lets it pass.
-#[derive(Drop)]
+#[derive(Clone, Copy)]
 pub struct Asked {
     pub parsed: Parsed,
     pub search: Search,
@@ -50,7 +52,7 @@ pub struct Asked {
 
 // The first half of a call: the bytes heard, what the last of them asks for, and which line is wanted, in how many. The device's guard is
 // that behind the command.
-#[derive(Drop)]
+#[derive(Clone, Copy)]
 pub struct Begun {
     pub device: Device,
     pub call: Call,

@@ -1,4 +1,6 @@
 // What the sheet says to a command, for callers that hold it by value (PROTOCOL 5.4).
+#![tactic(auto)]
+
 ghost use Rattle.std.specs.Prelude.{◌≡◌, get_or};
 ghost use Rattle.sheet.specs.Sheet.{blank};
 ghost use Rattle.sheet.specs.Searches.{place_of, match_of};

@@ -1,12 +1,14 @@
 // What `printer` stands between: the line and the recordings, as its arguments name them, opened before any byte is heard (LINE 1 and 2). What
 // the system opens no contract can say: what is promised holds for whatever it answers. What is decided is in `options` and `keeping`.
+#![tactic(auto)]
+
 ghost use Rattle.opening.specs.Opening.{Arguments, Opened, Followed};
 
 use libc::STDERR_FILENO;
 use options::{Argument, Asked, Ends};
 
 // A recording to read and to append to, and whether that can be done.
-#[derive(Drop)]
+#[derive(Clone, Copy)]
 struct Tape {
     old: i32,
     tape: i32,
@@ -14,7 +16,7 @@ struct Tape {
 }
 
 // A line or an earlier recording, and whether it could be opened.
-#[derive(Drop)]
+#[derive(Clone, Copy)]
 struct Found {
     fd: i32,
     ready: bool,

@@ -1,10 +1,12 @@
 // What the arguments of `printer` ask for: printer [-l LINE] [RECORDING].. (LINE 1).
+#![tactic(auto)]
+
 ghost use Rattle.std.specs.Prelude.{◌≡◌, ◌-◌, eqb, cond};
 ghost use Rattle.options.specs.Options.{argument_of, none_asked, not_of_the_form, signed_at, named_at, asked_with, asked_of};
 ghost use Rattle.options.specs.Ends.{none_open, ends_of, names_left, next_place, next_of};
 
 // LINE 1.2: the sign before a LINE; a name; or neither.
-#[derive(Drop)]
+#[derive(Clone, Copy)]
 pub enum Argument {
     Sign,
     Name,
@@ -13,7 +15,7 @@ pub enum Argument {
 
 // What was asked for: whether the arguments are of the form, and the places of LINE and of the first and the last RECORDING among them;
 // 0 where there is none. From the first to the last every argument is one.
-#[derive(Drop)]
+#[derive(Clone, Copy)]
 pub struct Asked {
     pub fits: bool,
     pub line: usize,
@@ -24,7 +26,7 @@ pub struct Asked {
 // The descriptors: where bytes come from, where answers go, the recording that is replayed, the last one to read and to append to, -1
 // where there is none; the places of the recording that is replayed, or of the argument before the first, and of the last; whether it is a LINE, whether there is a recording to replay,
 // and whether all is open.
-#[derive(Drop)]
+#[derive(Clone, Copy)]
 pub struct Ends {
     pub input: i32,
     pub output: i32,

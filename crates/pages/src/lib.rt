@@ -1,4 +1,6 @@
 // The lines of a telling, as a text or as one page (HTML), put into a lent buffer one behind the other (EXPLAIN 2).
+#![tactic(auto)]
+
 ghost use Rattle.std.specs.Prelude.{cond, [], ◌∷◌};
 ghost use Rattle.sentences.specs.Put.{Put};
 ghost use Rattle.captions.specs.Captions.{label_word};

@@ -1,4 +1,6 @@
 // The parts of what is told of a frame, put into a lent buffer (EXPLAIN 2). Each function says the place behind its text, or the buffer's end.
+#![tactic(auto)]
+
 ghost use Rattle.std.specs.Prelude.{◌≡◌, take, drop};
 ghost use Rattle.sentences.specs.Put.{Put};
 ghost use Rattle.pages.specs.Pages.{headed};

@@ -1,5 +1,7 @@
 // The parts that a line or a recording brings: read, kept, and what they gave back passed on (LINE 2 and 3). What the system reads and writes
 // no contract can say: what is promised holds for whatever it answers. What is decided is in `keeping`.
+#![tactic(auto)]
+
 ghost use Rattle.std.specs.Prelude.{◌≤◌, length};
 ghost use Rattle.options.specs.Ends.{names_left};
 ghost use Rattle.passing.specs.Passing.{PartRead, Answered};

@@ -1,5 +1,7 @@
 // The sentences in which programs tell of a script (SCRIPTS 6 to 8), put into a lent buffer. They are one table, a row to a line: strings of many
 // branches are dear to prove.
+#![tactic(auto)]
+
 ghost use Rattle.std.specs.Prelude.{[], ◌∷◌, get_or, take};
 ghost use Rattle.sentences.specs.Put.{Put};
 ghost use Rattle.sentences.specs.Filled.{filled};

@@ -1,5 +1,7 @@
 // A device on a line: the raw bytes that it receives on standard input or a LINE, all that it gives back on standard output or the same LINE,
 // as soon as it is there. With a RECORDING it stands where that ends, and keeps there what it hears; each further one is a switching on (LINE).
+#![tactic(auto)]
+
 ghost use Rattle.std.specs.Prelude.{◌≡◌, length};
 
 use display::MOST_SHOWN;

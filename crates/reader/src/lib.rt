@@ -1,4 +1,6 @@
 // Reading a frame, one byte at a time (PROTOCOL 1.7 to 1.9).
+#![tactic(auto)]
+
 ghost use Rattle.std.specs.Prelude.{◌≡◌, cond, ◌&&◌, [], ◌<◌, ◌≤◌, ◌+◌, ltb, length, get_or, take};
 ghost use Rattle.wire.specs.Places.{front};
 ghost use Rattle.reader.specs.Reading.{read, read_other, run, outside, inside, nothing, broken_frame};
@@ -11,7 +13,7 @@ use wire::{LEAST_LEN, MOST_DATA, Way, suit};
 pub const FRAME_ROOM: usize = 256;
 
 // Where reading stands. The bytes since 01h are the first `count` of a lent array, so that a byte moves three scalars only.
-#[derive(Drop)]
+#[derive(Clone, Copy)]
 pub struct Reader {
     pub inside: bool,
     pub count: u8,
@@ -19,21 +21,21 @@ pub struct Reader {
 }
 
 // What one byte brings. A whole frame's data stands in the lent array from its fourth byte on.
-#[derive(Drop)]
+#[derive(Clone, Copy)]
 pub enum Heard {
     Nothing,
     Broken,
     Whole { seq: u8, code: u8, count: usize },
 }
 
-#[derive(Drop)]
+#[derive(Clone, Copy)]
 pub struct Taken {
     pub reader: Reader,
     pub heard: Heard,
 }
 
 // What a whole run of bytes brought: where reading stands behind it, the broken frames and the whole ones.
-#[derive(Drop)]
+#[derive(Clone, Copy)]
 pub struct Told {
     pub reader: Reader,
     pub broken: usize,

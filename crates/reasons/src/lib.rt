@@ -1,10 +1,12 @@
 // Why a command is refused, as a value; the first reason against a line (PROTOCOL chapter 5, *Refused*).
+#![tactic(auto)]
+
 pub mod sales;
 
 ghost use Rattle.std.specs.Prelude.{◌≡◌, cond};
 
 // One case a reason, in the order of the reply numbers (`reason_number`).
-#[derive(Drop)]
+#[derive(Clone, Copy)]
 pub enum Reason {
     Done,
     // 1

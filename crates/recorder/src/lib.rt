@@ -1,4 +1,6 @@
 // A recording: all the bytes that a fresh device heard (PROTOCOL 1.1); and any part of the line's bytes, heard with the sheet by value.
+#![tactic(auto)]
+
 ghost use Rattle.std.specs.Prelude.{◌≡◌, replicate};
 ghost use Rattle.sheet.specs.Sheet.{blank};
 ghost use Rattle.recorder.specs.Recording.{recording, told_in};
@@ -13,7 +15,7 @@ use tape::start;
 use wire::ANSWER_ROOM;
 
 // A recording heard: the books at the end, and how many bytes stand in the two lent buffers.
-#[derive(Drop)]
+#[derive(Clone, Copy)]
 pub struct Recorded {
     pub books: Books,
     pub given: usize,
@@ -21,7 +23,7 @@ pub struct Recorded {
 }
 
 // A part heard: the device with its sheet, and how many bytes stand in the two lent buffers.
-#[derive(Drop)]
+#[derive(Clone, Copy)]
 pub struct Part {
     pub kept: Kept,
     pub given: usize,

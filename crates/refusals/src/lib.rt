@@ -1,4 +1,6 @@
 // Why a command is refused: the first reason that the rule book names (PROTOCOL chapter 5, *Refused*).
+#![tactic(auto)]
+
 mod against;
 
 ghost use Rattle.std.specs.Prelude.{◌≡◌};

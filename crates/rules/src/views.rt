@@ -7,7 +7,7 @@ use books::Shown;
 use kinds::{Adjust, Command, Payment, Sale, Service};
 
 // What has to be open for a command that only asks (PROTOCOL 5.2).
-#[derive(Drop)]
+#[derive(Clone, Copy)]
 pub enum When {
     Always,
     FiscalIsOpen,
@@ -16,7 +16,7 @@ pub enum When {
 }
 
 // The eleven ways to change the books, and one for every command that changes nothing in them.
-#[derive(Drop)]
+#[derive(Clone, Copy)]
 pub enum View {
     Opens,
     Sells(Sale),

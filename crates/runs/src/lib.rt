@@ -1,4 +1,6 @@
 // The bytes of a part heard to its end, call by call.
+#![tactic(auto)]
+
 ghost use Rattle.std.specs.Prelude.{◌≡◌};
 ghost use Rattle.runs.specs.Running.{heard_through};
 

@@ -1,4 +1,6 @@
 // What the till end says of a try, and what an answer tells (SCRIPTS 7, 8), put into a lent buffer.
+#![tactic(auto)]
+
 ghost use Rattle.std.specs.Prelude.{◌≡◌, ◌<◌, cond, [], ◌∷◌, ◌++◌, eqb};
 ghost use Rattle.sentences.specs.Put.{Put};
 ghost use Rattle.saying.specs.Answers.{is_answered, says_text, answer_text, opening_text, named_text, flag_text, bits_text, status_text};

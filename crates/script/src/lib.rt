@@ -1,4 +1,6 @@
 // A line of a script, read (docs/SCRIPTS.md): a command with its data, or what happens on the line to a try or to its answer.
+#![tactic(auto)]
+
 ghost use Rattle.std.specs.Prelude.{◌≡◌, length};
 ghost use Rattle.std.proofs.lemmas.List.Edits.{sets};
 ghost use Rattle.writing.specs.Words.{behind as behind_of};
@@ -14,7 +16,7 @@ use writing::words::{behind, digit, is, word};
 pub const MOST_CONTENT: usize = 255;
 
 // What a line says: nothing; a command, whose data is so many bytes; what happens to a try, or to its answer; or what is wrong with it.
-#[derive(Drop)]
+#[derive(Clone, Copy)]
 pub enum Act {
     Nothing,
     Command {
@@ -30,7 +32,7 @@ pub enum Act {
 }
 
 // A fault as it is named, or none.
-#[derive(Drop)]
+#[derive(Clone, Copy)]
 pub enum Named {
     Clear(Fault),
     Unclear,

@@ -1,5 +1,7 @@
 // Texts put into a lent buffer, one behind the other. A sentence is a text with holes for numbers, sums, bytes and words. Each function says the
 // place behind what it put, or the buffer's end, so that the next one goes on there and no place is wrong.
+#![tactic(auto)]
+
 ghost use Rattle.std.specs.Prelude.{◌≡◌, ◌+◌, ◌<◌, min, [], ◌∷◌, length, take, get_or};
 ghost use Rattle.text.specs.Digits.{digits};
 ghost use Rattle.sentences.specs.Put.{Put};

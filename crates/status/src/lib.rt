@@ -1,4 +1,6 @@
 // The six status bytes of an answer (PROTOCOL chapter 3).
+#![tactic(auto)]
+
 ghost use Rattle.std.specs.Prelude.{◌≡◌};
 ghost use Rattle.status.specs.Status.{verdict0, verdict1, receipts, memories, status_of};
 

@@ -1,5 +1,7 @@
 // What is told of a call of the device, and at the end of the recording, put into a lent buffer (EXPLAIN 2). Each function says the place behind
 // its text, or the buffer's end.
+#![tactic(auto)]
+
 ghost use Rattle.sentences.specs.Put.{Put};
 ghost use Rattle.story.specs.Story.{part_text, broken_text, repeated_text, order_text, told_text, call_text, ends_text};
 

@@ -1,4 +1,6 @@
 // Reading a stretch of bytes at once (DECISIONS 54, 64).
+#![tactic(auto)]
+
 ghost use Rattle.std.specs.Prelude.{◌≡◌, true, ◌≤◌, length};
 ghost use Rattle.wire.specs.declared.Way.TheVariants.{ToDevice};
 ghost use Rattle.stretches.specs.Stretches.{stretched};
@@ -10,7 +12,7 @@ use wire::{LEAST_LEN, MOST_DATA, Role, Way, build, suit};
 
 // What a stretch of bytes brought, and how many they were: those of a lent part up to and including the first that brings something, or
 // all of them.
-#[derive(Drop)]
+#[derive(Clone, Copy)]
 pub struct Stretch {
     pub reader: Reader,
     pub heard: Heard,

@@ -1,11 +1,13 @@
 // How many commands were answered, ended unfinished or could not be sent, and how many the device carried out (SCRIPTS 7).
+#![tactic(auto)]
+
 ghost use Rattle.std.specs.Prelude.{◌≡◌, ◌+◌, min};
 ghost use Rattle.tally.specs.Tally.{most, none_yet, ended_by, called_by};
 
 use line::Call;
 use till::Word;
 
-#[derive(Drop)]
+#[derive(Clone, Copy)]
 pub struct Tally {
     pub answered: u64,
     pub unfinished: u64,

@@ -1,5 +1,7 @@
 // What the calls of a device bring, noted down: what is given back into one lent buffer, the commands carried out into another, as far
 // as each reaches (DECISIONS 32).
+#![tactic(auto)]
+
 ghost use Rattle.std.specs.Prelude.{◌≡◌, ◌+◌, min, length};
 ghost use Rattle.std.proofs.lemmas.List.Edits.{sets};
 ghost use Rattle.machine.specs.Hearing.{carried_by};
@@ -11,7 +13,7 @@ use machine::{Device, Hearing};
 use reader::FRAME_ROOM;
 
 // A part heard so far: the device, the place of the next byte, how many bytes stand in the two lent buffers, and whether there is more.
-#[derive(Drop)]
+#[derive(Clone, Copy)]
 pub struct Run {
     pub device: Device,
     pub place: usize,

@@ -1,5 +1,7 @@
 // What is told of a command, of its tries and of what the device makes of them (SCRIPTS 7, 8), put into a lent buffer. Each function says the
 // place behind its text, or the buffer's end.
+#![tactic(auto)]
+
 ghost use Rattle.std.specs.Prelude.{◌≡◌, cond, [], ◌∷◌, ◌++◌, eqb};
 ghost use Rattle.sentences.specs.Put.{Put};
 ghost use Rattle.sentences.specs.Filled.{filled};
@@ -26,7 +28,7 @@ const LINE_END: usize = 15;
 const DISPLAYS: usize = 32;
 
 // The sentence for what happens on the way, with its numbers.
-#[derive(Drop)]
+#[derive(Clone, Copy)]
 pub struct Fate {
     pub row: usize,
     pub place: u64,

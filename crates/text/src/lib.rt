@@ -1,5 +1,7 @@
 // Looking for a byte in lent data, and putting bytes and digit fields into a lent buffer. A byte whose place lies past the buffer's end is
 // not written, so no place is wrong and no function here asks anything of its caller.
+#![tactic(auto)]
+
 ghost use Rattle.std.specs.Prelude.{◌≡◌, ◌<◌, ◌≤◌, ◌+◌, ◌%◌, length, set};
 ghost use Rattle.std.proofs.lemmas.List.Edits.{sets};
 ghost use Rattle.text.specs.Digits.{digits};

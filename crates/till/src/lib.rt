@@ -1,4 +1,6 @@
 // The till end: it hands out command frames, hears the device's bytes, and gives a command up after five tries (PROTOCOL chapter 7).
+#![tactic(auto)]
+
 ghost use Rattle.std.specs.Prelude.{◌≡◌, false, cond, List, ◌++◌, ℕ, ◌+◌, ◌≤◌, ◌<◌, eqb, length, take, drop};
 ghost use Rattle.std.proofs.lemmas.List.Edits.{sets};
 ghost use Rattle.till.specs.Words.{number_of, count_of};
@@ -21,13 +23,13 @@ const FIRST_SEQ: u8 = 0x20;
 const LAST_SEQ: u8 = 0xFF;
 
 // What the try under way has heard. The answer's bytes so far stand at the front of a lent array.
-#[derive(Drop)]
+#[derive(Clone, Copy)]
 pub struct Ear {
     pub reader: Reader,
 }
 
 // A command that waits. Its frame is the first `count` bytes of a lent array.
-#[derive(Drop)]
+#[derive(Clone, Copy)]
 pub struct Attempt {
     pub seq: u8,
     pub code: u8,
@@ -37,21 +39,21 @@ pub struct Attempt {
 }
 
 // No command waits, or one does.
-#[derive(Drop)]
+#[derive(Clone, Copy)]
 pub enum Slot {
     Free,
     Held(Attempt),
 }
 
 // `next` is the SEQ of the next command.
-#[derive(Drop)]
+#[derive(Clone, Copy)]
 pub struct Till {
     pub next: u8,
     pub slot: Slot,
 }
 
 // What the till end says, with how many bytes it put in the lent buffer, or the number of tries.
-#[derive(Drop)]
+#[derive(Clone, Copy)]
 pub enum Word {
     Idle,
     Waiting(usize),
@@ -63,14 +65,14 @@ pub enum Word {
 }
 
 // The till end after an event, and its word.
-#[derive(Drop)]
+#[derive(Clone, Copy)]
 pub struct Said {
     pub till: Till,
     pub word: Word,
 }
 
 // What a byte is to the command that waits (PROTOCOL 7.5); an answer with the number of its data bytes.
-#[derive(Drop)]
+#[derive(Clone, Copy)]
 enum Verdict {
     Fails,
     GoesOn,

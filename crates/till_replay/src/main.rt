@@ -1,4 +1,6 @@
 // A till end told of a list of events, and what it says of each. The crate `events` says what an event is.
+#![tactic(auto)]
+
 ghost use Rattle.std.specs.Prelude.{◌≡◌, ◌<◌, length};
 
 use events::{End, TILL_ROOM};

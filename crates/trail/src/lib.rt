@@ -1,4 +1,6 @@
 // Where in a recording its frames stand: the offset of each, and the bytes that belong to none (PROTOCOL 1.7 to 1.9).
+#![tactic(auto)]
+
 ghost use Rattle.std.specs.Prelude.{◌≡◌, cond, eqb};
 ghost use Rattle.reader.specs.Reading.{read};
 ghost use Rattle.reader.specs.Fields.{place_of, kept_in};
@@ -9,7 +11,7 @@ use reader::{FRAME_ROOM, Heard, Reader};
 use wire::Way;
 
 // Where reading stands; the offset of the next byte; that of the last 01h; the bytes outside frames since the last frame.
-#[derive(Drop)]
+#[derive(Clone, Copy)]
 pub struct Trail {
     pub reader: Reader,
     pub offset: u64,

@@ -1,5 +1,7 @@
 // An answer told: its bytes, its data field by field, and its status bits, put into a lent buffer (EXPLAIN 2). Each function says the place
 // behind its text, or the buffer's end.
+#![tactic(auto)]
+
 ghost use Rattle.std.specs.Prelude.{◌≡◌, ◌≤◌, cond, [], length, drop};
 ghost use Rattle.text.specs.Parts.{up_to};
 ghost use Rattle.words.specs.Fields.{field_word};

@@ -1,4 +1,6 @@
 // What the status bytes of an answer tell the till end of its command (PROTOCOL 3.2).
+#![tactic(auto)]
+
 ghost use Rattle.std.specs.Prelude.{◌≡◌, ◌<◌};
 ghost use Rattle.verdict.specs.Verdict.{has_bit, verdict_in};
 

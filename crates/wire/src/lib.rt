@@ -1,4 +1,6 @@
 // Command and answer frames (PROTOCOL 1.2 to 1.7), built and read.
+#![tactic(auto)]
+
 pub mod build;
 pub mod suit;
 
@@ -14,14 +16,14 @@ pub const ANSWER_ROOM: usize = 217;
 
 // Which way a frame goes: a command to the device, an answer to the till end. The differing parts of both stand beside each other in
 // `specs/`.
-#[derive(Drop)]
+#[derive(Clone, Copy)]
 pub enum Way {
     ToDevice,
     ToTill,
 }
 
 // What a byte of a frame is: one of the two that name it (SEQ and CMD), data, or status.
-#[derive(Drop)]
+#[derive(Clone, Copy)]
 pub enum Role {
     Name,
     Data,
@@ -29,7 +31,7 @@ pub enum Role {
 }
 
 // What building a frame answers: the frame's length, number 7 or number 8.
-#[derive(Drop)]
+#[derive(Clone, Copy)]
 pub enum Built {
     Frame(usize),
     Short,

@@ -1,11 +1,13 @@
 // What the arguments ask for: explain [-html] [RECORDING] (EXPLAIN 1), cashier [-k] -l LINE (SCRIPTS 8).
+#![tactic(auto)]
+
 ghost use Rattle.std.specs.Prelude.{◌≡◌};
 ghost use Rattle.wishes.specs.Wishes.{is_page, is_option, wish_of, with_page, made, errand_of};
 
 use writing::words::is;
 
 // Whether the arguments are of the form; whether a page is wanted; the place of RECORDING among them, 0 where there is none.
-#[derive(Drop)]
+#[derive(Clone, Copy)]
 pub struct Wish {
     pub fits: bool,
     pub html: bool,
@@ -63,7 +65,7 @@ fn is_option(s: &[u8]) -> bool
 }
 
 // `cashier`: whether the arguments are of the form; whether it goes on behind UNFINISHED; the place of LINE among them.
-#[derive(Drop)]
+#[derive(Clone, Copy)]
 pub struct Errand {
     pub fits: bool,
     pub keeps: bool,

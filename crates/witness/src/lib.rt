@@ -1,4 +1,6 @@
 // One call of the device, and why the command that it carried out was refused (DECISIONS 72).
+#![tactic(auto)]
+
 ghost use Rattle.std.specs.Prelude.{◌≡◌, ◌≤◌, length, drop};
 ghost use Rattle.kept.specs.ByValue.{machine_of};
 ghost use Rattle.machine.specs.Hearing.{carried_by};
@@ -15,7 +17,7 @@ use sheet::{Line, MOST_LINES};
 use wire::ANSWER_ROOM;
 
 // A call as `kept::hear_next` hands it back, and the first reason against its command: Done where none was refused.
-#[derive(Drop)]
+#[derive(Clone, Copy)]
 pub struct Seen {
     pub kept: Kept,
     pub call: Call,

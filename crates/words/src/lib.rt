@@ -1,5 +1,7 @@
 // The words that all programs use for commands, replies, reasons, status bits and the fields of answers (PROTOCOL 5.1, 2.1, 3.1). Each table is
 // one text, a row to a line: strings of many branches are dear to prove.
+#![tactic(auto)]
+
 pub mod fields;
 pub mod rows;
 

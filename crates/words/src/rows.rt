@@ -8,7 +8,7 @@ ghost use Rattle.words.specs.Rows.{row_at};
 pub const WORDS_ROOM: usize = 64;
 
 // A text by value: the first `count` bytes; the others are zero.
-#[derive(Drop)]
+#[derive(Clone, Copy)]
 pub struct Words {
     pub bytes: [u8; WORDS_ROOM],
     pub count: usize,

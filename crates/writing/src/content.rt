@@ -8,7 +8,7 @@ use crate::words::digit;
 use crate::{Stand, Step};
 
 // Data that was read: where reading stands behind it, and how many bytes it says.
-#[derive(Drop)]
+#[derive(Clone, Copy)]
 pub struct Content {
     pub stand: Stand,
     pub count: usize,
