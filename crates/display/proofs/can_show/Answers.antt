@@ -1,0 +1,37 @@
+use Prim.Native.Nat.{◌-◌}
+use mathlib.Core.Logic.{⊎_elim}
+use mathlib.Core.Path.{refl, ap, ◌∙◌}
+use mathlib.Core.Bool.{false}
+use native.Mathlib.Omega.{arith}
+use lib.ListN.{length}
+use Rattle.display.proofs.Marks.{plain_mark, plain_byte, suit_turn, suit_stop, judged}
+use Rattle.display.proofs.can_show.Goals as goal
+
+pub loop-i-init : goal.loop-i-init
+loop-i-init c = (omega arith, omega arith, refl, omega arith)
+
+pub returns-then-marked-b : goal.returns-then-marked-b
+returns-then-marked-b c =
+    let stop = suit_stop c.args.s.now c.loop-i.i c.loop-i.marked c.loop-i-test.true c.if-marked-b.true in
+    rw (c.loop-i.invariant.2, stop)
+
+pub loop-i-preserved : goal.loop-i-preserved
+loop-i-preserved c =
+    let s = c.args.s.now in
+    let here = c.loop-i in
+    let less = c.loop-i-test.true in
+    let e = c.is_mark-marked.ensures in
+    let mark = c.is_mark-marked.result in (
+      omega arith,
+      ⊎_elim (λ w. omega arith) (λ w. omega arith) c.if-not-marked.branch,
+      here.invariant.2 ∙ suit_turn s here.i here.marked mark less e c.if-marked-b.false,
+      ⊎_elim
+          (λ w. omega (arith, ap length (plain_byte s here.i here.marked mark less e w.0.taken)))
+          (λ w. omega (arith, ap length (plain_mark s here.i here.marked mark less e w.0.left)))
+          c.if-not-marked.branch,
+    )
+
+pub returns : goal.returns
+returns c =
+    let at = c.loop-i in
+    judged c.args.s.now at.i at.marked at.count c.loop-i-test.false at.invariant.2 at.invariant.3

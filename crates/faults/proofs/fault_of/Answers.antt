@@ -1,0 +1,5 @@
+
+use Rattle.faults.proofs.fault_of.Goals as goal
+
+pub returns : goal.returns
+returns c = rw c.spot_of_lem.ensures.0

@@ -1,0 +1,30 @@
+use mathlib.Core.Path.{sym, ap, ◌∙◌}
+use mathlib.Core.Bool.{cond}
+use native.Mathlib.Omega.{arith}
+use lib.Dec.{eqb}
+use mir.Syntax.{w32}
+use mir.Val.{to_z, of_z}
+use mir.ValLaws.{to_z-of_z}
+use borrow.Author.Tests.{ltb-true}
+use Rattle.options.proofs.Following.{none_follows, follows}
+use Rattle.options.proofs.next_of.Goals as goal
+
+pub returns-then-not-names_left : goal.returns-then-not-names_left
+returns-then-not-names_left c =
+    let a = c.args in
+    none_follows a.ends a.old (sym c.names_left.ensures ∙ c.if-not-names_left.true)
+
+pub overflow_add-next : goal.overflow_add-next
+overflow_add-next c =
+    let ends = c.args.ends in
+    let below = ltb-true ends.place ends.last (sym c.names_left.ensures ∙ c.if-not-names_left.false) in
+    omega arith
+
+pub returns : goal.returns
+returns c =
+    let a = c.args in
+    let newest = to_z-of_z w32 a.ends.newest (record { sfits = c.struct_told-1.given.1.1.1.0.1 }) in
+    let old = to_z-of_z w32 a.old c.ranges.old in
+    let last = eqb c.next_place-newest.result 0 in
+    follows a.ends a.old c.either.result (sym c.names_left.ensures ∙ c.if-not-names_left.false)
+    (c.either.ensures ∙ ap (λ z. cond last z (to_z w32 (of_z w32 a.old))) newest ∙ ap (cond last a.ends.newest) old ∙ ap (λ n. cond (eqb n 0) a.ends.newest a.old) c.next_place-newest.ensures)
