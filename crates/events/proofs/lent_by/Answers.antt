@@ -7,4 +7,4 @@ returns-then-kind-eq66 c = let a = c.args in all_lent a.event a.room a.lines a.s
 pub returns : goal.returns
 returns c =
     let a = c.args in
-    one_lent a.event a.room a.lines a.shown c.type_size.result _ _ _ c.if-kind-eq66.false c.type_size.ensures c.lent_at_lem.ensures c.lent_at-2.ensures c.lent_at-3.ensures
+    one_lent a.event a.room a.lines a.shown c.size_of-size.result _ _ _ c.if-kind-eq66.false c.size_of-size.ensures c.lent_at.ensures c.lent_at-2.ensures c.lent_at-3.ensures

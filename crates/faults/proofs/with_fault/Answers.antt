@@ -2,4 +2,4 @@
 use Rattle.faults.proofs.with_fault.Goals as goal
 
 pub returns : goal.returns
-returns c = rw c.spot_of_lem.ensures.0
+returns c = rw c.spot_of-at.ensures.0

@@ -10,5 +10,5 @@ returns-then-end-lt0 c = whole_below c.args.end c.args.heard (tested c.args.end 
 
 pub returns : goal.returns
 returns c =
-    ap (λ n. eqb n c.args.heard) c.type_size.ensures
+    ap (λ n. eqb n c.args.heard) c.size_of.ensures
     ∙ whole_from c.args.end c.args.heard c.ranges.end (tested c.args.end false c.ranges.end c.if-end-lt0.false)

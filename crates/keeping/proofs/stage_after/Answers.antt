@@ -23,7 +23,7 @@ returns-then-kept c =
 pub returns-in-Silent : goal.returns-in-Silent
 returns-in-Silent c =
     let a = c.args in
-    case a.next _ a.heard a.count a.kept c.Stage-at.result c.in-Silent.is (c.Stage-at.ensures ∙ ap (λ z. stage_at true z a.count false) c.grown.ensures)
+    case a.next _ a.heard a.count a.kept c.stage_at.result c.in-Silent.is (c.stage_at.ensures ∙ ap (λ z. stage_at true z a.count false) c.grown.ensures)
 
 pub returns-in-Begin : goal.returns-in-Begin
 returns-in-Begin c = let a = c.args in case a.next _ a.heard a.count a.kept c.stage_at-in-Begin.result c.in-Begin.is c.stage_at-in-Begin.ensures

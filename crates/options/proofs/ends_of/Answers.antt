@@ -38,8 +38,8 @@ returns c =
     let online = not (eqb a.asked.line 0) in
     let replays = not (eqb a.asked.last 0) in
     five _ _ _ _ _ _ _ _ _ _ a.asked.last online replays
-    (field c.either.result a.line _ online (record { sfits = c.either.type-inv }) c.ranges.line c.either.ensures)
-    (field c.either-2.result a.line _ online (record { sfits = c.either-2.type-inv }) c.ranges.line c.either-2.ensures)
-    (field c.either-3.result a.newest _ replays (record { sfits = c.either-3.type-inv }) c.ranges.newest c.either-3.ensures)
-    (field c.either-4.result a.tape _ replays (record { sfits = c.either-4.type-inv }) c.ranges.tape c.either-4.ensures)
+    (field c.either.result a.line _ online (record { sfits = c.either.type_inv }) c.ranges.line c.either.ensures)
+    (field c.either-2.result a.line _ online (record { sfits = c.either-2.type_inv }) c.ranges.line c.either-2.ensures)
+    (field c.either-3.result a.newest _ replays (record { sfits = c.either-3.type_inv }) c.ranges.newest c.either-3.ensures)
+    (field c.either-4.result a.tape _ replays (record { sfits = c.either-4.type_inv }) c.ranges.tape c.either-4.ensures)
     c.place_before.ensures

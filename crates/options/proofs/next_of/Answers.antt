@@ -20,11 +20,3 @@ overflow_add-next c =
     let below = ltb-true ends.place ends.last (sym c.names_left.ensures ∙ c.if-not-names_left.false) in
     omega arith
 
-pub returns : goal.returns
-returns c =
-    let a = c.args in
-    let newest = to_z-of_z w32 a.ends.newest (record { sfits = c.struct_told-1.given.1.1.1.0.1 }) in
-    let old = to_z-of_z w32 a.old c.ranges.old in
-    let last = eqb c.next_place-newest.result 0 in
-    follows a.ends a.old c.either.result (sym c.names_left.ensures ∙ c.if-not-names_left.false)
-    (c.either.ensures ∙ ap (λ z. cond last z (to_z w32 (of_z w32 a.old))) newest ∙ ap (cond last a.ends.newest) old ∙ ap (λ n. cond (eqb n 0) a.ends.newest a.old) c.next_place-newest.ensures)

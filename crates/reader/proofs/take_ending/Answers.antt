@@ -10,19 +10,19 @@ use Rattle.reader.proofs.take_ending.Goals as goal
 pub returns-then-not-suits_ending : goal.returns-then-not-suits_ending
 returns-then-not-suits_ending c =
     let a = c.args in
-    reads a.array.now _ _ _ _
+    let both = reads a.array.now _ _ _ _
     (ending_broken a.way a.n a.count a.array.now c.requires.behind c.ranges.count.fits a.sum a.b (omega arith)
     (rw c.requires.edge_value at (sym c.suits_ending.ensures ∙ c.if-not-suits_ending.true)))
-    c.broken.ensures refl
+    c.broken.ensures refl in record { value = both.0; array_after = both.1; }
 
 pub returns-then-at-eq4 : goal.returns-then-at-eq4
 returns-then-at-eq4 c =
     let a = c.args in
     let past : length (front a.way a.n) < a.count = omega arith in
     let four = rw c.requires.edge_value at c.if-at-eq4.true in
-    reads a.array.now _ _ _ _
+    let both = reads a.array.now _ _ _ _
     (ending_whole a.way a.n a.count a.array.now c.requires.behind c.ranges.count.fits a.sum a.b past (rw c.requires.edge_value at (sym c.suits_ending.ensures ∙ c.if-not-suits_ending.false)) four)
-    (rw (c.fresh.ensures, heard_whole a.way a.n a.count a.array.now c.requires.behind c.ranges.count.fits a.sum a.b past four) refl) refl
+    (rw (c.fresh.ensures, heard_whole a.way a.n a.count a.array.now c.requires.behind c.ranges.count.fits a.sum a.b past four) refl) refl in record { value = both.0; array_after = both.1; }
 
 pub overflow_add-result : goal.overflow_add-result
 overflow_add-result c =
@@ -31,7 +31,7 @@ overflow_add-result c =
 pub returns : goal.returns
 returns c =
     let a = c.args in
-    more a.way a.n a.count a.array.now c.requires.behind c.ranges.count.fits a.sum a.b _ _
+    let both = more a.way a.n a.count a.array.now c.requires.behind c.ranges.count.fits a.sum a.b _ _
     (ending_more a.way a.n a.count a.array.now c.requires.behind c.ranges.count.fits a.sum a.b (omega arith)
     (rw c.requires.edge_value at (sym c.suits_ending.ensures ∙ c.if-not-suits_ending.false))
-    (rw c.requires.edge_value at c.if-at-eq4.false))
+    (rw c.requires.edge_value at c.if-at-eq4.false)) in record { value = both.0; array_after = both.1; }

@@ -13,7 +13,7 @@ pub loop-i-preserved : goal.loop-i-preserved
 loop-i-preserved c =
     let a = c.args in
     head_turn a.s.now c.loop-i.stand c.loop-i.i (omega arith) a.buf.now c.loop-i.buf c.loop-i.n c.loop-i.invariant
-    _ c.step_of_lem.ensures _ c.put_said-n.ensures.value _ c.put_said-n.ensures.buf_after _ c.stand_after-stand.ensures
+    _ c.step_of-step.ensures _ c.put_said-n.ensures.value _ c.put_said-n.ensures.buf_after _ c.stand_after-stand.ensures
 
 pub shape_of-buf : goal.shape_of-buf
 shape_of-buf c =
