@@ -1,11 +1,11 @@
 use Prim.Native.Nat.{◌-◌}
-use mathlib.Core.Logic.{⊎_elim}
 use mathlib.Core.Path.{refl, ap, ◌∙◌}
 use mathlib.Core.Bool.{false}
 use native.Mathlib.Omega.{arith}
 use lib.ListN.{length}
 use Rattle.display.proofs.Marks.{plain_mark, plain_byte, suit_turn, suit_stop, judged}
 use Rattle.display.proofs.can_show.Goals as goal
+use Rattle.display.proofs.can_show.Goals.{then-not-marked, else-not-marked}
 
 pub loop-i-init : goal.loop-i-init
 loop-i-init c = (omega arith, omega arith, refl, omega arith)
@@ -21,15 +21,16 @@ loop-i-preserved c =
     let here = c.loop-i in
     let less = c.loop-i-test.true in
     let e = c.is_mark-marked.ensures in
-    let mark = c.is_mark-marked.result in (
-      omega arith,
-      ⊎_elim (λ w. omega arith) (λ w. omega arith) c.if-not-marked.branch,
-      here.invariant.2 ∙ suit_turn s here.i here.marked mark less e c.if-marked-b.false,
-      ⊎_elim
-          (λ w. omega (arith, ap length (plain_byte s here.i here.marked mark less e w.0.taken)))
-          (λ w. omega (arith, ap length (plain_mark s here.i here.marked mark less e w.0.left)))
-          c.if-not-marked.branch,
-    )
+    let mark = c.is_mark-marked.result in
+    let goes_on = here.invariant.2 ∙ suit_turn s here.i here.marked mark less e c.if-marked-b.false in
+    elim c.if-not-marked.branch [
+      then-not-marked w ↦
+        let one = ap length (plain_byte s here.i here.marked mark less e w.if-not-marked.true-raw) in
+        (omega arith, omega arith, goes_on, omega (arith, one))
+    | else-not-marked w ↦
+        let none = ap length (plain_mark s here.i here.marked mark less e w.if-not-marked.false-raw) in
+        (omega arith, omega arith, goes_on, omega (arith, none))
+    ]
 
 pub returns : goal.returns
 returns c =

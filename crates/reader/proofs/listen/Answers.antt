@@ -15,11 +15,8 @@ overflow_add-whole c = omega (arith, few_whole c.take_byte-taken.result.heard)
 
 pub loop-i-preserved : goal.loop-i-preserved
 loop-i-preserved c =
-    let at = c.loop-i in
-    let a = c.args in
-    let t = c.take_byte-taken in
-    head_turn a.way a.bytes.now at.array at.reader at.broken at.whole at.i at.invariant c.loop-i-test.true
-    _ t.result t.ensures.0 t.ensures.1 (omega (arith, t.type_inv)) _ _ c.broken_in-broken.ensures c.whole_in-whole.ensures
+    head_turn c.args.way c.args.bytes.now c.loop-i.array c.loop-i.reader c.loop-i.broken c.loop-i.whole c.loop-i.i c.loop-i.invariant c.loop-i-test.true
+    _ c.take_byte-taken.result c.take_byte-taken.ensures.value c.take_byte-taken.ensures.array_after (omega arith) _ _ c.broken_in-broken.ensures c.whole_in-whole.ensures
 
 pub returns : goal.returns
 returns c = head_done c.args.way c.args.bytes.now c.loop-i.array c.loop-i.reader _ _ c.loop-i.i c.loop-i.invariant c.loop-i-test.false
