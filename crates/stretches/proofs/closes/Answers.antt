@@ -21,7 +21,7 @@ pub returns-then-six-quad-4 : goal.returns-then-six-quad-4
 returns-then-six-quad-4 c = λ e. absurd (false≢true e)
 
 pub returns : goal.returns
-returns c =
+returns c e =
     let quad = c.bcc_bytes-quad.ensures in
     six_are c.args.six.now _ _ _ _ c.requires
     c.if-six-ne5.false

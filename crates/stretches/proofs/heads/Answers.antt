@@ -19,7 +19,7 @@ pub returns-then-not-may_stand : goal.returns-then-not-may_stand
 returns-then-not-may_stand c = λ e. absurd (false≢true e)
 
 pub returns : goal.returns
-returns c =
+returns c e =
     record {
       start = c.if-bytes-ne1.false;
       len = c.if-bytes-n.false;

@@ -16,7 +16,7 @@ pub returns-then-not-all_may_stand : goal.returns-then-not-all_may_stand
 returns-then-not-all_may_stand c = λ e. absurd (false≢true e)
 
 pub returns : goal.returns
-returns c =
+returns c e =
     leads_whole c.args.n c.sum_of-sum.result c.args.bytes.now c.requires c.if-bytes-n.false
     (c.heads.ensures (c.if-not-heads.false))
     (sym c.all_may_stand.ensures ∙ c.if-not-all_may_stand.false)

@@ -12,7 +12,11 @@ returns-in_default c =
     let size : length c.args.frame.now ≡ 256 = omega arith in
     let built = built_none c.args.next c.args.code c.args.content.now c.args.frame.now size c.build_command-built.result _ c.in_default.in_default-own.keys2 c.build_command-built.ensures in
     let all = says_not c.args.next c.args.code c.args.content.now c.args.frame.now size built.0 _ c.args.buf.now built.1 in
-    (c.free.ensures ∙ all.0, all.1)
+    record {
+      value = c.free.ensures ∙ all.0;
+      frame_after = all.1.0;
+      buf_after = all.1.1;
+    }
 
 pub put_part-requires : goal.put_part-requires
 put_part-requires c =
@@ -31,4 +35,8 @@ returns c =
     let size : length c.args.frame.now ≡ 256 = omega arith in
     let built = built_frame c.args.next c.args.code c.args.content.now c.args.frame.now size _ _ _ c.in-Frame.is c.build_command-built.ensures in
     let all = says_sent c.args.next c.args.code c.args.content.now c.args.frame.now size built.0 _ built.1.0 _ c.args.buf.now _ built.1.1 c.put_part.ensures _ c.seq_after.ensures _ c.listen.ensures in
-    (c.held.ensures ∙ all.0, all.1)
+    record {
+      value = c.held.ensures ∙ all.0;
+      frame_after = all.1.0;
+      buf_after = all.1.1;
+    }
