@@ -10,7 +10,6 @@ use lib.ListN.{length, take}
 use lib.Seq.{sets, sets-eq, take_at}
 use borrow.Author.Tests.{lt-ltb, le-ltb}
 use Rattle.text.proofs.Laws.{sets_same}
-use types.Run.{OneOf}
 use denote.Enum.Declared.{tag_of}
 use Rattle.wire.specs.contracts.Built.{the_type}
 use Rattle.wire.specs.Frame.{Message, command_of, frame, sendable}
@@ -162,13 +161,13 @@ module _ (next code : ℕ) (content array : List ℕ) (size : length array ≡ 2
           absurd (omega (arith, ap (λ (z : Reply). z.number) all))
 
   -- the array is long enough, so that no frame says that it can't be sent
-  pub built_none : (r : Built) (after : List ℕ) → OneOf (1 ∷ 2 ∷ []) (tag_of the_type r) → reply_of r after ≡ building ToDevice array m
+  pub built_none : (r : Built) (after : List ℕ) → ((n : ℕ) → r ≡ Frame n → ⊥) → reply_of r after ≡ building ToDevice array m
       → (sendable ToDevice m ≡ false) × (after ≡ array)
   built_none r after no-frame e = go r (sendable ToDevice m) refl no-frame e
     where
-      go : (z : Built) (s : Bool) → sendable ToDevice m ≡ s → OneOf (1 ∷ 2 ∷ []) (tag_of the_type z) → reply_of z after ≡ building ToDevice array m
+      go : (z : Built) (s : Bool) → sendable ToDevice m ≡ s → ((n : ℕ) → z ≡ Frame n → ⊥) → reply_of z after ≡ building ToDevice array m
           → (sendable ToDevice m ≡ false) × (after ≡ array)
-      go (Frame n) s es o h = absurd (⊎_elim (λ k. omega arith) (λ k. omega arith) o)
+      go (Frame n) s es o h = absurd (o n refl)
       go Short true es o h = absurd (omega (arith, ap (λ (z : Reply). z.number) (h ∙ built-as true es)))
       go Short false es o h = absurd (omega (arith, ap (λ (z : Reply). z.number) (h ∙ built-as false es)))
       go Unsendable true es o h = absurd (omega (arith, ap (λ (z : Reply). z.number) (h ∙ built-as true es)))

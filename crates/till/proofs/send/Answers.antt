@@ -10,7 +10,7 @@ use Rattle.till.proofs.send.Goals as goal
 pub returns-in_default : goal.returns-in_default
 returns-in_default c =
     let size : length c.args.frame.now ≡ 256 = omega arith in
-    let built = built_none c.args.next c.args.code c.args.content.now c.args.frame.now size c.build_command-built.result _ c.in_default.in_default-own.keys2 c.build_command-built.ensures in
+    let built = built_none c.args.next c.args.code c.args.content.now c.args.frame.now size c.build_command-built.result _ c.in_default.not-Frame c.build_command-built.ensures in
     let all = says_not c.args.next c.args.code c.args.content.now c.args.frame.now size built.0 _ c.args.buf.now built.1 in
     record {
       value = c.free.ensures ∙ all.0;

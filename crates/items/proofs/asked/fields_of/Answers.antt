@@ -19,8 +19,7 @@ returns-in-Sell c = c.sale_fields.ensures ∙ sym (ap fields_of c.in-Sell.is)
 
 pub returns-in-Subtotal : goal.returns-in-Subtotal
 returns-in-Subtotal c =
-    let k = c.command-in-Subtotal-1.given in
-    c.flags.ensures ∙ ap (flags k.0.0 k.0.1.0) c.adjusted.ensures ∙ sym (ap fields_of k.1)
+    c.flags.ensures ∙ ap (flags c.in-Subtotal.print c.in-Subtotal.show) c.adjusted.ensures ∙ sym (ap fields_of c.in-Subtotal.is)
 
 pub returns-in-Pay : goal.returns-in-Pay
 returns-in-Pay c = c.pay_fields.ensures ∙ sym (ap fields_of c.in-Pay.is)
