@@ -53,7 +53,7 @@ pub fn put_label(buf: &mut [u8], at: usize, label: Label) -> usize
 }
 
 fn label_place(label: Label) -> usize
-    ensures { result ≡ labelPlace label }
+    ensures { result ≡ label_place label }
 {
     match label {
         Label::Frame => 0,
@@ -97,7 +97,7 @@ fn label_place(label: Label) -> usize
 
 // A value in words.
 pub fn put_saying(buf: &mut [u8], at: usize, saying: Saying) -> usize
-    ensures { Put buf.old at (sayingWord saying) buf.new result }
+    ensures { Put buf.old at (saying_word saying) buf.new result }
 {
     let word = row_of(
         b"yes\n\
@@ -127,7 +127,7 @@ pub fn put_saying(buf: &mut [u8], at: usize, saying: Saying) -> usize
 }
 
 fn saying_place(saying: Saying) -> usize
-    ensures { result ≡ sayingPlace saying }
+    ensures { result ≡ saying_place saying }
 {
     match saying {
         Saying::Yes => 0,
@@ -156,7 +156,7 @@ fn saying_place(saying: Saying) -> usize
 
 // What became of a frame.
 pub fn put_kind(buf: &mut [u8], at: usize, kind: Kind) -> usize
-    ensures { Put buf.old at (kindWord kind) buf.new result }
+    ensures { Put buf.old at (kind_word kind) buf.new result }
 {
     let word = row_of(
         b"done\n\

@@ -165,12 +165,12 @@ pub record Part (m : Machine) (lent : Lent) (bytes : List ℕ) (h : PartHeard) :
   -- PROTOCOL 5.17: what its command shows, and nothing else
   pub shows_is : h.after.shows ≡ display_of (texts_by h.call h.after.machine.frame)
   pub display_is : h.after.lent.display ≡ displayed lent.display (texts_by h.call h.after.machine.frame)
-  pub goes_on_lem : session carry (state_of m) bytes
+  pub goes_on : session carry (state_of m) bytes
       ≡ behind gives (carried_by h.call h.after.machine.frame) (session carry (state_of h.after.machine) (drop h.taken bytes))
 
 pub part_is : (bytes : List ℕ) (m : Machine) (lent : Lent) → length m.frame ≡ 256 → length m.last ≡ 217 → 217 ≤ length lent.buffer
     → Underway ToDevice (state_of m).place → (hearing m lent bytes).after.count ≤ 217 → Part m lent bytes (hearing m lent bytes)
-part_is [] m lent frames lasts room held few = record { gives = []; given_is = refl; frames = frames; lasts = lasts; room = refl; held = held; shows_is = refl; display_is = refl; goes_on_lem = refl }
+part_is [] m lent frames lasts room held few = record { gives = []; given_is = refl; frames = frames; lasts = lasts; room = refl; held = held; shows_is = refl; display_is = refl; goes_on = refl }
 part_is (x ∷ xs) m lent frames lasts room held few = go (is_quiet call) refl few (part_is xs)
   where
     call : Call
@@ -231,7 +231,7 @@ part_is (x ∷ xs) m lent frames lasts room held few = go (is_quiet call) refl f
           held = p.held;
           shows_is = p.shows_is;
           display_is = p.display_is ∙ ap (λ z. displayed (displayed lent.display (texts_of z)) (texts_by rest.call rest.after.machine.frame)) idle;
-          goes_on_lem =
+          goes_on =
               ap (λ (z : State Store). behind t.gives t.carried (session carry z xs)) (sym (back little))
               ∙ ap (λ z. behind z t.carried r) none ∙ ap (λ z. behind [] z r) idle ∙ p.goes_on
               ∙ ap (λ k. behind p.gives (carried_by rest.call rest.after.machine.frame) (session carry (state_of rest.after.machine) (drop k (x ∷ xs)))) (sym (add-one rest.taken));
@@ -246,7 +246,7 @@ part_is (x ∷ xs) m lent frames lasts room held few = go (is_quiet call) refl f
           held = held' few;
           shows_is = ap (λ z. display_of (texts_of z)) now-carried;
           display_is = ap (λ z. displayed lent.display (texts_of z)) now-carried;
-          goes_on_lem =
+          goes_on =
               ap (λ (z : State Store). behind t.gives t.carried (session carry z xs)) (sym (back few))
               ∙ ap (λ z. behind t.gives z (session carry (state_of a.machine) xs)) now-carried;
         }

@@ -36,7 +36,7 @@ fn counter_word(i: usize) -> Words
 
 // 51.
 fn subtotal_word(i: usize) -> Words
-    ensures { result ≡ wordsOf (get_or subtotal i []) }
+    ensures { result ≡ words_of (get_or subtotal i []) }
 {
     row(
         b"total\n\
@@ -54,7 +54,7 @@ fn subtotal_word(i: usize) -> Words
 
 // 65 and 97.
 fn group_word(i: usize) -> Words
-    ensures { result ≡ wordsOf (get_or groups i []) }
+    ensures { result ≡ words_of (get_or groups i []) }
 {
     row(
         b"group A\n\
@@ -71,7 +71,7 @@ fn group_word(i: usize) -> Words
 
 // 69.
 fn closure_word(i: usize) -> Words
-    ensures { result ≡ wordsOf (get_or closure i []) }
+    ensures { result ≡ words_of (get_or closure i []) }
 {
     row(
         b"closings made so far\n\
@@ -90,7 +90,7 @@ fn closure_word(i: usize) -> Words
 
 // 70.
 fn drawer_word(i: usize) -> Words
-    ensures { result ≡ wordsOf (get_or drawer i []) }
+    ensures { result ≡ words_of (get_or drawer i []) }
 {
     row(
         b"P\n\
@@ -103,7 +103,7 @@ fn drawer_word(i: usize) -> Words
 
 // PROTOCOL 5.6: what the sum behind `D` or `R` is (53).
 pub fn paid_word(mark: u8) -> Words
-    ensures { result ≡ wordsOf (paidWord mark) }
+    ensures { result ≡ words_of (paid_word mark) }
 {
     match mark {
         0x44 => words_of(b"left to pay"),

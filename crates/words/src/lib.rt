@@ -45,7 +45,7 @@ pub fn command_word(code: u8) -> Words
 
 // PROTOCOL 2.1: the ten numbers; nothing for any other.
 pub fn reply_word(number: u64) -> Words
-    ensures { result ≡ wordsOf (replyWord number) }
+    ensures { result ≡ words_of (reply_word number) }
 {
     row(
         b"done\n\
@@ -64,7 +64,7 @@ pub fn reply_word(number: u64) -> Words
 
 // PROTOCOL chapter 5, *Refused*: each reason.
 pub fn reason_word(reason: Reason) -> Words
-    ensures { result ≡ wordsOf (reasonWord reason) }
+    ensures { result ≡ words_of (reason_word reason) }
 {
     row(
         b"done\n\
@@ -108,7 +108,7 @@ pub fn reason_word(reason: Reason) -> Words
 
 // The row of a reason.
 fn reason_place(reason: Reason) -> usize
-    ensures { result ≡ reasonPlace reason }
+    ensures { result ≡ reason_place reason }
 {
     match reason {
         Reason::Done => 0,
@@ -151,7 +151,7 @@ fn reason_place(reason: Reason) -> usize
 
 // PROTOCOL 3.1: what a status bit says that is set, both counted from 0; nothing where it is always 0. A byte to a line.
 pub fn status_word(byte: usize, bit: usize) -> Words
-    ensures { result ≡ wordsOf (statusWord byte bit) }
+    ensures { result ≡ words_of (status_word byte bit) }
 {
     if 8 <= bit {
         return words_of(b"");
