@@ -14,7 +14,7 @@ import re
 import sys
 
 TOKEN = re.compile(r"[^\s(){}.;,@\"«»\[\]\\|`:]+")
-STRING = re.compile(r'b?"(?:\\.|[^"\\])*"')
+STRING = re.compile(r'b?"(?:\\.|[^"\\])*"', re.S)
 CAMEL = re.compile(r"[a-z][a-z0-9]*(?:[A-Z][A-Za-z0-9]*)+['′]*$")
 DECLARED = re.compile(r"^(?:(?:pub|abbrev|unfoldable|data|record|ruleset)\s+)*([^\s(){}.;,@\"«»\[\]\\|`:]+)((?:\s*[({][^)}]*[)}])*)\s*:(?!\S)(.*)")
 MEMBER = re.compile(r"^ +(?:(?:pub|abbrev|unfoldable)\s+)*([^\s(){}.;,@\"«»\[\]\\|`:]+)\s*:(?!\S)")

@@ -15,7 +15,7 @@ pub fn put_label(buf: &mut [u8], at: usize, label: Label) -> usize
     ensures { Put buf.old at (label_word label) buf.new result }
 {
     let word = row_of(
-        b"frame\n_seq\n_cmd\ndata\n\
+        b"frame\nSEQ\nCMD\ndata\n\
         operator\n\
         password\n\
         new password\n\

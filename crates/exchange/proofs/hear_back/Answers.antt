@@ -11,6 +11,6 @@ pub returns : goal.returns
 returns c =
     let waiting = c.hear_some-said.result.till in
     let held = c.hear_some-said.new.answer in
-    let buffer = c.hear_some-said.new.buf.0 in
+    let buffer = c.hear_some-said.new.buf in
     timeout_heard c.args.frame.now waiting held buffer _ _ (c.timeout.ensures.by_index held) (c.timeout.ensures.by_index_2 held)
     ∙ none_in_time c.args.frame.now (heard_some c.args.frame.now c.args.till c.args.answer.now c.args.buf.now c.args.bytes.now) _ c.hear_some-said.ensures (sym c.is_waiting.ensures ∙ c.if-not-is_waiting.false)

@@ -1,28 +1,11 @@
--- The machine values of what the two halves hand back, in their parts; and that the calls of the shell, one after the other, are the halves put together.
+-- The calls of the shell, one after the other, are the halves put together.
 use mathlib.Core.Path.{◌≡◌, ap, ◌∙◌, subst}
-use mathlib.Core.List.{List, [], ◌∷◌}
+use mathlib.Core.List.{List}
 use Prim.Native.Nat.{ℕ, ◌≤◌}
 use lib.ListN.{length, get_or}
-use mir.Syntax.{w64}
-use mir.Val.{Val, vbool, vint, vstruct, vcons, vnil}
-use denote.Laws.{Is}
-use denote.Builtin.{usize}
-use denote.Steps.{only}
-use denote.Struct.Laws as LL
-use denote.Enum.Laws as Le
-use Rattle.display.specs.contracts.Display as X
-use Rattle.display.proofs.Display.TheLaws as X'
-use Rattle.kinds.specs.contracts.Parsed as P
-use Rattle.kinds.proofs.Parsed.TheLaws as P'
-use Rattle.line.specs.contracts.Call as C
-use Rattle.line.proofs.Call.TheLaws as C'
 use Rattle.sheet.specs.declared.Line.{Line}
 use Rattle.sheet.specs.Sheet.{blank, newest}
 use Rattle.sheet.specs.Notes.{written}
-use Rattle.sheet.specs.contracts.Line as L
-use Rattle.sheet.proofs.Line.TheLaws as L'
-use Rattle.sheet.specs.contracts.Writes as R
-use Rattle.sheet.proofs.Writes.TheLaws as R'
 use Rattle.machine.specs.declared.Begun.{Begun}
 use Rattle.machine.specs.declared.Device.{Device}
 use Rattle.giving.specs.declared.Ended.{Ended}
@@ -31,56 +14,6 @@ use Rattle.machine.specs.Beginning.{FirstHalf, beginning}
 use Rattle.giving.specs.Ending.{SecondHalf, ending}
 use Rattle.giving.specs.Together.{put_together, going_on, together}
 use Rattle.giving.proofs.Joining.{joined}
-use Rattle.machine.specs.contracts.Begun as B
-use Rattle.machine.proofs.Begun.TheLaws as B'
-use Rattle.machine.specs.contracts.Device as D
-use Rattle.machine.proofs.Device.TheLaws as D'
-use Rattle.giving.specs.contracts.Ended as E
-use Rattle.giving.proofs.Ended.TheLaws as E'
-use Rattle.machine.specs.contracts.Hearing as N
-use Rattle.machine.proofs.Hearing.TheLaws as N'
-
-pub record BegunApart (b : Begun) (v : Val) : Type 0 where
-  pub dv : Val
-  pub cv : Val
-  pub pv : Val
-  pub wv : Val
-  pub xv : Val
-  pub is_so : v ≡ vstruct (vcons dv (vcons cv (vcons (vint w64 b.taken) (vcons pv (vcons (vint w64 b.lines) (vcons wv (vcons xv (vcons (vbool b.passes) (vcons (vbool b.enough) vnil)))))))))
-  pub lines_is : Is usize b.lines (vint w64 b.lines ∷ [])
-  pub wanted_is : Is L.the_row b.wanted (wv ∷ [])
-
-pub apart_begun : (b : Begun) (v : Val) → Is B.the_row b (v ∷ []) → BegunApart b v
-apart_begun b v is =
-    let each = LL.owed B.the_type B'.the_laws b _ is in
-    record {
-      dv = LL.val D.the_type D'.the_laws b.device;
-      cv = Le.val C.the_type C'.the_laws b.call;
-      pv = Le.val P.the_type P'.the_laws b.parsed;
-      wv = LL.val L.the_type L'.the_laws b.wanted;
-      xv = Le.val X.the_type X'.the_laws b.shows;
-      is_so = ap only (LL.tells B.the_type B'.the_laws b _ is);
-      lines_is = each.1.1.1.1.0;
-      wanted_is = each.1.1.1.1.1.0;
-    }
-
-pub record EndedApart (e : Ended) (v : Val) : Type 0 where
-  pub hv : Val
-  pub wv : Val
-  pub is_so : v ≡ vstruct (vcons hv (vcons wv vnil))
-  pub hearing_is : Is N.the_row e.hearing (hv ∷ [])
-  pub writes_is : Is R.the_row e.writes (wv ∷ [])
-
-pub apart_ended : (e : Ended) (v : Val) → Is E.the_row e (v ∷ []) → EndedApart e v
-apart_ended e v is =
-    let each = LL.owed E.the_type E'.the_laws e _ is in
-    record {
-      hv = LL.val N.the_type N'.the_laws e.hearing;
-      wv = LL.val R.the_type R'.the_laws e.writes;
-      is_so = ap only (LL.tells E.the_type E'.the_laws e _ is);
-      hearing_is = each.0;
-      writes_is = each.1.0;
-    }
 
 -- m is what `length_of` says, i and r what `find` and `get` bring
 in_turn : (d : Device) (frame last buffer display : List ℕ) (ys : List Line) (bytes : List ℕ) (m : ℕ) (b : Begun) (fs ds : List ℕ) (i : ℕ) (r : Line) (e : Ended) (ls ws : List ℕ) (zs : List Line)
