@@ -1,4 +1,1 @@
 pub mod Calling
-pub mod SharedRef
-pub mod Locals
-pub mod Runs
