@@ -1,4 +1,2 @@
 pub mod Listening
 pub mod Through
-pub mod Sheets
-pub mod Keeping
