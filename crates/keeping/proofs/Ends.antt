@@ -5,7 +5,7 @@ use Prim.Native.Nat.{ℕ}
 use native.Mathlib.Omega.{arith}
 use native.Mathlib.Nat.{lt_of_le_of_lt}
 use borrow.Author.Tests.{ltb-true}
-use lib.Dec.{eqb, ltb, lit<, T}
+use lib.Dec.{eqb, lit<, T}
 use lib.IntN.{ℤ, pos, negsuc, nat_abs}
 use lib.Signed.{lt_z, non_neg, nat_abs-le}
 use mir.Syntax.{w64}

@@ -1,6 +1,6 @@
 -- The loop: what was found among the bytes looked at, unless a later slash stands in what is left.
 use mathlib.Core.Path.{sym, ap, ◌∙◌}
-use Prim.Native.Nat.{◌+◌, ◌-◌}
+use Prim.Native.Nat.{◌+◌}
 use native.Mathlib.Omega.{arith}
 use Rattle.keeping.proofs.Slashes.{so_far, at_start, at_end, found_here, not_here}
 use Rattle.keeping.proofs.folder_end.Goals as goal

@@ -1,12 +1,7 @@
-use mathlib.Core.Path.{sym, ap, ◌∙◌}
-use mathlib.Core.Bool.{cond}
+use mathlib.Core.Path.{sym, ◌∙◌}
 use native.Mathlib.Omega.{arith}
-use lib.Dec.{eqb}
-use mir.Syntax.{w32}
-use mir.Val.{to_z, of_z}
-use mir.ValLaws.{to_z-of_z}
 use borrow.Author.Tests.{ltb-true}
-use Rattle.options.proofs.Following.{none_follows, follows}
+use Rattle.options.proofs.Following.{none_follows}
 use Rattle.options.proofs.next_of.Goals as goal
 
 pub returns-then-not-names_left : goal.returns-then-not-names_left
