@@ -10,7 +10,6 @@ use lib.Seq.{get_or-append-add, length-take-le, get_or-take}
 use borrow.Author.Tests.{le-leb, lt-leb, lt-ltb, le-ltb, eq-eqb, ne_eqb, eqb-true, eqb-false}
 use Rattle.text.proofs.Laws.{sets-append, sets_same}
 use Rattle.wire.proofs.Suits.{length_front}
-use Rattle.wire.specs.Bytes.{within}
 use Rattle.wire.specs.Places.{front, ending, none, shortest, longest}
 use Rattle.reader.specs.Reading.{Place, outside, inside, Read, nothing, broken_frame, heard, suits, at_last, grown, message, read, read_other, starts_anew}
 use Rattle.reader.specs.Fields.{heard_of, kept_in, taken_of, place_of}

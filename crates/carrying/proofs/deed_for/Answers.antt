@@ -1,4 +1,3 @@
-
 use Rattle.carrying.proofs.deed_for.Goals as goal
 
 pub returns-then-passes : goal.returns-then-passes

@@ -1,6 +1,4 @@
-use Prim.Native.Nat.{◌-◌}
 use mathlib.Core.Path.{refl, ap, ◌∙◌}
-use mathlib.Core.Bool.{false}
 use native.Mathlib.Omega.{arith}
 use lib.ListN.{length}
 use Rattle.display.proofs.Marks.{plain_mark, plain_byte, suit_turn, suit_stop, judged}
@@ -24,12 +22,12 @@ loop-i-preserved c =
     let mark = c.is_mark-marked.result in
     let goes_on = here.invariant.2 ∙ suit_turn s here.i here.marked mark less e c.if-marked-b.false in
     elim c.if-not-marked.branch [
-      then-not-marked w ↦
-        let one = ap length (plain_byte s here.i here.marked mark less e w.if-not-marked.true-raw) in
-        (omega arith, omega arith, goes_on, omega (arith, one))
-    | else-not-marked w ↦
-        let none = ap length (plain_mark s here.i here.marked mark less e w.if-not-marked.false-raw) in
-        (omega arith, omega arith, goes_on, omega (arith, none))
+      | then-not-marked w ↦
+          let one = ap length (plain_byte s here.i here.marked mark less e w.if-not-marked.true-raw) in
+          (omega arith, omega arith, goes_on, omega (arith, one))
+      | else-not-marked w ↦
+          let none = ap length (plain_mark s here.i here.marked mark less e w.if-not-marked.false-raw) in
+          (omega arith, omega arith, goes_on, omega (arith, none))
     ]
 
 pub returns : goal.returns

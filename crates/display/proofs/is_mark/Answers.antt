@@ -1,4 +1,3 @@
-
 use Rattle.display.proofs.is_mark.Goals as goal
 
 pub returns : goal.returns

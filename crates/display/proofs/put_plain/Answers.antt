@@ -1,4 +1,3 @@
-use Prim.Native.Nat.{◌-◌}
 use mathlib.Core.Path.{refl, ap, ◌∙◌}
 use native.Mathlib.Omega.{arith}
 use lib.ListN.{length}
@@ -18,22 +17,20 @@ loop-i-preserved c =
     let e = c.is_mark-mark.ensures in
     let mark = c.is_mark-mark.result in
     elim c.if-not-mark.branch [
-      then-not-mark w ↦
-        let one = ap length (plain_byte s here.i here.marked mark less e w.if-not-mark.true-raw) in
-        (
-          omega arith,
-          omega arith,
-          omega (arith, one),
-          put_turn s here.i here.marked mark _ _ _ _ _ less e w.if-not-mark.true-raw w.plain_byte.ensures (w.buf-is ∙ w.put_byte.ensures) w.count-is ∙ here.invariant.3,
-        )
-    | else-not-mark w ↦
-        let none = plain_mark s here.i here.marked mark less e w.if-not-mark.false-raw in
-        (
-          omega arith,
-          omega arith,
-          omega (arith, ap length none),
-          rw (w.buf-is, w.count-is, ← none) here.invariant.3,
-        )
+      | then-not-mark w ↦
+          let one = ap length (plain_byte s here.i here.marked mark less e w.if-not-mark.true-raw) in (
+            omega arith,
+            omega arith,
+            omega (arith, one),
+            put_turn s here.i here.marked mark _ _ _ _ _ less e w.if-not-mark.true-raw w.plain_byte.ensures (w.buf-is ∙ w.put_byte.ensures) w.count-is ∙ here.invariant.3,
+          )
+      | else-not-mark w ↦
+          let none = plain_mark s here.i here.marked mark less e w.if-not-mark.false-raw in (
+            omega arith,
+            omega arith,
+            omega (arith, ap length none),
+            rw (w.buf-is, w.count-is, ← none) here.invariant.3,
+          )
     ]
 
 pub shape_of-buf : goal.shape_of-buf

@@ -9,13 +9,13 @@ pub returns-in-Nothing : goal.returns-in-Nothing
 returns-in-Nothing c =
     let a = c.args in
     let both = arrives a.fault a.bytes.now a.out.now _ a.bytes.now _
-    (ap (λ f. arrived_of f a.bytes.now) c.in-Nothing.is) c.put_bytes.ensures c.least_size.ensures in record { value = both.0; out_after = both.1; }
+    (ap (λ f. arrived_of f a.bytes.now) c.in-Nothing.is) c.put_bytes.ensures c.least_size.ensures in record { value = both.0; out_after = both.1 }
 
 pub returns-in-Lost : goal.returns-in-Lost
 returns-in-Lost c =
     let a = c.args in
     let both = arrives a.fault a.bytes.now a.out.now a.out.now [] 0
-    (ap (λ f. arrived_of f a.bytes.now) c.in-Lost.is) refl (omega arith) in record { value = both.0; out_after = both.1; }
+    (ap (λ f. arrived_of f a.bytes.now) c.in-Lost.is) refl (omega arith) in record { value = both.0; out_after = both.1 }
 
 pub returns-in-Becomes : goal.returns-in-Becomes
 returns-in-Becomes c =
@@ -26,4 +26,4 @@ returns-in-Becomes c =
     let both = arrives a.fault bytes a.out.now _ (replaced place byte bytes) _
     (ap (λ f. arrived_of f bytes) c.in-Becomes.is)
     (c.replace.ensures a.out.now bytes refl c.put_bytes-in-Becomes.ensures)
-    (rw (length-replaced place byte bytes) c.least_size-in-Becomes.ensures) in record { value = both.0; out_after = both.1; }
+    (rw (length-replaced place byte bytes) c.least_size-in-Becomes.ensures) in record { value = both.0; out_after = both.1 }

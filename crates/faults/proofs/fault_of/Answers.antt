@@ -1,4 +1,3 @@
-
 use Rattle.faults.proofs.fault_of.Goals as goal
 
 pub returns : goal.returns

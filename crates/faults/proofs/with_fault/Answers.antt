@@ -1,4 +1,3 @@
-
 use Rattle.faults.proofs.with_fault.Goals as goal
 
 pub returns : goal.returns

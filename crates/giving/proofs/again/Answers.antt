@@ -3,7 +3,7 @@ use Rattle.giving.proofs.again.Goals as goal
 
 pub returns-in-Nothing : goal.returns-in-Nothing
 returns-in-Nothing c =
-    let all = none_again c.args.previous c.args.last.now c.args.buf.now c.in-Nothing.is in record { value = all.0; buf_after = all.1; }
+    let all = none_again c.args.previous c.args.last.now c.args.buf.now c.in-Nothing.is in record { value = all.0; buf_after = all.1 }
 
 pub returns-in-Frame : goal.returns-in-Frame
 returns-in-Frame c =

@@ -16,8 +16,8 @@ loop-i-preserved c =
       omega arith,
       c.loop-i.invariant.1
           ∙ elim c.if-path-i-eq-SLASH.branch [
-            then-path-i-eq-SLASH w ↦ found_here 47 path c.loop-i.end c.loop-i.i left w.if-path-i-eq-SLASH.true ∙ ap (λ end. so_far 47 path end (c.loop-i.i + 1)) (sym w.end-is)
-          | else-path-i-eq-SLASH w ↦ not_here 47 path c.loop-i.end c.loop-i.i left w.if-path-i-eq-SLASH.false ∙ ap (λ end. so_far 47 path end (c.loop-i.i + 1)) (sym w.end-is)
+            | then-path-i-eq-SLASH w ↦ found_here 47 path c.loop-i.end c.loop-i.i left w.if-path-i-eq-SLASH.true ∙ ap (λ end. so_far 47 path end (c.loop-i.i + 1)) (sym w.end-is)
+            | else-path-i-eq-SLASH w ↦ not_here 47 path c.loop-i.end c.loop-i.i left w.if-path-i-eq-SLASH.false ∙ ap (λ end. so_far 47 path end (c.loop-i.i + 1)) (sym w.end-is)
           ],
     )
 

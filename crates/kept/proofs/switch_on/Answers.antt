@@ -1,4 +1,3 @@
-
 use Rattle.kept.proofs.switch_on.Goals as goal
 
 pub returns : goal.returns

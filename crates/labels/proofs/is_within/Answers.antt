@@ -1,4 +1,3 @@
-use Prim.Native.Nat.{◌-◌}
 use mathlib.Core.Path.{sym, ◌∙◌}
 use native.Mathlib.Omega.{arith}
 use lib.Dec.{leb}
@@ -18,11 +17,10 @@ returns-then-s-i-lt32 c =
     sym (c.loop-i.invariant.1 ∙ every_stop (leb 0x20) c.args.s.now c.loop-i.i c.loop-i-test.true (lt-leb _ _ c.if-s-i-lt32.true))
 
 pub loop-i-preserved : goal.loop-i-preserved
-loop-i-preserved c =
-    (
-      omega arith,
-      c.loop-i.invariant.1 ∙ every_turn (leb 0x20) c.args.s.now c.loop-i.i c.loop-i-test.true (le-leb _ _ c.if-s-i-lt32.false),
-    )
+loop-i-preserved c = (
+  omega arith,
+  c.loop-i.invariant.1 ∙ every_turn (leb 0x20) c.args.s.now c.loop-i.i c.loop-i-test.true (le-leb _ _ c.if-s-i-lt32.false),
+)
 
 pub returns : goal.returns
 returns c =

@@ -1,4 +1,3 @@
-
 use Rattle.line.proofs.fresh.Goals as goal
 
 pub returns : goal.returns

@@ -18,17 +18,17 @@ nothing b g call frame display q e two = (e ∙ two.0, ap (displayed display) tw
 pub returns-in-Quiet : goal.returns-in-Quiet
 returns-in-Quiet c =
     let is = c.in-Quiet.is in
-    let all = nothing c.args.books c.args.guard c.args.call c.args.frame.now c.args.display.now _ c.ask_nothing.ensures (sym (ap (λ z. asked_of c.args.books c.args.guard z c.args.frame.now) is), sym (ap (λ z. texts_by z c.args.frame.now) is)) in record { value = all.0; display_after = all.1; }
+    let all = nothing c.args.books c.args.guard c.args.call c.args.frame.now c.args.display.now _ c.ask_nothing.ensures (sym (ap (λ z. asked_of c.args.books c.args.guard z c.args.frame.now) is), sym (ap (λ z. texts_by z c.args.frame.now) is)) in record { value = all.0; display_after = all.1 }
 
 pub returns-in-Nak : goal.returns-in-Nak
 returns-in-Nak c =
     let is = c.in-Nak.is in
-    let all = nothing c.args.books c.args.guard c.args.call c.args.frame.now c.args.display.now _ c.ask_nothing-in-Nak.ensures (sym (ap (λ z. asked_of c.args.books c.args.guard z c.args.frame.now) is), sym (ap (λ z. texts_by z c.args.frame.now) is)) in record { value = all.0; display_after = all.1; }
+    let all = nothing c.args.books c.args.guard c.args.call c.args.frame.now c.args.display.now _ c.ask_nothing-in-Nak.ensures (sym (ap (λ z. asked_of c.args.books c.args.guard z c.args.frame.now) is), sym (ap (λ z. texts_by z c.args.frame.now) is)) in record { value = all.0; display_after = all.1 }
 
 pub returns-in-Again : goal.returns-in-Again
 returns-in-Again c =
     let is = c.in-Again.is in
-    let all = nothing c.args.books c.args.guard c.args.call c.args.frame.now c.args.display.now _ c.ask_nothing-in-Again.ensures (sym (ap (λ z. asked_of c.args.books c.args.guard z c.args.frame.now) is), sym (ap (λ z. texts_by z c.args.frame.now) is)) in record { value = all.0; display_after = all.1; }
+    let all = nothing c.args.books c.args.guard c.args.call c.args.frame.now c.args.display.now _ c.ask_nothing-in-Again.ensures (sym (ap (λ z. asked_of c.args.books c.args.guard z c.args.frame.now) is), sym (ap (λ z. texts_by z c.args.frame.now) is)) in record { value = all.0; display_after = all.1 }
 
 pub returns-in-Order : goal.returns-in-Order
 returns-in-Order c =

@@ -1,4 +1,3 @@
-
 use Rattle.machine.proofs.switch_on.Goals as goal
 
 pub returns : goal.returns

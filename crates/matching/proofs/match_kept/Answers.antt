@@ -1,4 +1,3 @@
-
 use Rattle.matching.proofs.match_kept.Goals as goal
 
 pub returns : goal.returns

@@ -14,4 +14,3 @@ overflow_add-next c =
     let ends = c.args.ends in
     let below = ltb-true ends.place ends.last (sym c.names_left.ensures ∙ c.if-not-names_left.false) in
     omega arith
-

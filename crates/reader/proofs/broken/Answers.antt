@@ -1,4 +1,3 @@
-
 use Rattle.reader.proofs.broken.Goals as goal
 
 pub returns : goal.returns

@@ -1,5 +1,4 @@
 -- The loop's invariant: what i bytes brought is counted, and what the rest brings from here makes the whole.
-use Prim.Native.Nat.{◌-◌}
 use native.Mathlib.Omega.{arith}
 use Rattle.reader.proofs.Running.{head_start, head_turn, head_done, few_broken, few_whole}
 use Rattle.reader.proofs.listen.Goals as goal

@@ -4,9 +4,9 @@ use Rattle.reader.proofs.take_behind.Goals as goal
 
 pub take_front-requires : goal.take_front-requires
 take_front-requires c = record {
-      behind = c.requires;
-      count_in_bounds = omega (arith, length_front c.args.way c.args.n);
-    }
+  behind = c.requires;
+  count_in_bounds = omega (arith, length_front c.args.way c.args.n);
+}
 
 pub take_ending-requires : goal.take_ending-requires
 take_ending-requires c =

@@ -16,7 +16,7 @@ returns-then-b-eq1 c =
     let both = reads a.array.now _ _ _ _
     (read_start a.way (place_of a.reader a.array.now) a.b c.if-b-eq1.true)
     (c.started.ensures ∙ ap (λ e. taken_of (record { place = inside 0 []; event = e })) (sym (starts a.reader a.array.now size)))
-    refl in record { value = both.0; array_after = both.1; }
+    refl in record { value = both.0; array_after = both.1 }
 
 pub returns-then-not-within : goal.returns-then-not-within
 returns-then-not-within c =
@@ -24,7 +24,7 @@ returns-then-not-within c =
     let both = reads a.array.now _ _ _ _
     (read_other_lem a.way (place_of a.reader a.array.now) a.b c.if-b-eq1.false
     ∙ ap (λ p. read_other a.way p a.b) (place_out a.reader a.array.now (c.if-not-within.true)))
-    (rw c.fresh.ensures) refl in record { value = both.0; array_after = both.1; }
+    (rw c.fresh.ensures) refl in record { value = both.0; array_after = both.1 }
 
 pub returns-then-count-eq0 : goal.returns-then-count-eq0
 returns-then-count-eq0 c =
@@ -33,7 +33,7 @@ returns-then-count-eq0 c =
     (read_other_lem a.way (place_of a.reader a.array.now) a.b c.if-b-eq1.false
     ∙ ap (λ p. read_other a.way p a.b) (place_in a.reader a.array.now (c.if-not-within.false))
     ∙ ap (λ n. read_other a.way (inside a.reader.sum (take n a.array.now)) a.b) c.if-count-eq0.true)
-    c.take_len.ensures.value c.take_len.ensures.array_after in record { value = both.0; array_after = both.1; }
+    c.take_len.ensures.value c.take_len.ensures.array_after in record { value = both.0; array_after = both.1 }
 
 pub take_behind-requires : goal.take_behind-requires
 take_behind-requires c =
@@ -53,4 +53,4 @@ returns c =
     let both = reads a.array.now _ _ _ _
     (read_other_lem a.way (place_of a.reader a.array.now) a.b c.if-b-eq1.false
     ∙ ap (λ p. read_other a.way p a.b) (place_in a.reader a.array.now (c.if-not-within.false)))
-    c.take_behind.ensures.value c.take_behind.ensures.array_after in record { value = both.0; array_after = both.1; }
+    c.take_behind.ensures.value c.take_behind.ensures.array_after in record { value = both.0; array_after = both.1 }

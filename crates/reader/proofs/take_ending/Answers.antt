@@ -13,7 +13,7 @@ returns-then-not-suits_ending c =
     let both = reads a.array.now _ _ _ _
     (ending_broken a.way a.n a.count a.array.now c.requires.behind c.ranges.count.fits a.sum a.b (omega arith)
     (rw c.requires.edge_value at (sym c.suits_ending.ensures ∙ c.if-not-suits_ending.true)))
-    c.broken.ensures refl in record { value = both.0; array_after = both.1; }
+    c.broken.ensures refl in record { value = both.0; array_after = both.1 }
 
 pub returns-then-at-eq4 : goal.returns-then-at-eq4
 returns-then-at-eq4 c =
@@ -22,7 +22,7 @@ returns-then-at-eq4 c =
     let four = rw c.requires.edge_value at c.if-at-eq4.true in
     let both = reads a.array.now _ _ _ _
     (ending_whole a.way a.n a.count a.array.now c.requires.behind c.ranges.count.fits a.sum a.b past (rw c.requires.edge_value at (sym c.suits_ending.ensures ∙ c.if-not-suits_ending.false)) four)
-    (rw (c.fresh.ensures, heard_whole a.way a.n a.count a.array.now c.requires.behind c.ranges.count.fits a.sum a.b past four) refl) refl in record { value = both.0; array_after = both.1; }
+    (rw (c.fresh.ensures, heard_whole a.way a.n a.count a.array.now c.requires.behind c.ranges.count.fits a.sum a.b past four) refl) refl in record { value = both.0; array_after = both.1 }
 
 pub overflow_add-result : goal.overflow_add-result
 overflow_add-result c =
@@ -34,4 +34,4 @@ returns c =
     let both = more a.way a.n a.count a.array.now c.requires.behind c.ranges.count.fits a.sum a.b _ _
     (ending_more a.way a.n a.count a.array.now c.requires.behind c.ranges.count.fits a.sum a.b (omega arith)
     (rw c.requires.edge_value at (sym c.suits_ending.ensures ∙ c.if-not-suits_ending.false))
-    (rw c.requires.edge_value at c.if-at-eq4.false)) in record { value = both.0; array_after = both.1; }
+    (rw c.requires.edge_value at c.if-at-eq4.false)) in record { value = both.0; array_after = both.1 }

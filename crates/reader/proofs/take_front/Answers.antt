@@ -10,7 +10,7 @@ returns-then-not-suits_front c =
     let both = reads a.array.now _ _ _ _
     (front_broken a.way a.n a.count a.array.now c.requires.behind c.ranges.count.fits a.sum a.b c.requires.count_in_bounds
     (sym c.suits_front.ensures ∙ c.if-not-suits_front.true))
-    c.broken.ensures refl in record { value = both.0; array_after = both.1; }
+    c.broken.ensures refl in record { value = both.0; array_after = both.1 }
 
 pub overflow_add-result : goal.overflow_add-result
 overflow_add-result c = omega (arith, length_front c.args.way c.args.n)
@@ -20,4 +20,4 @@ returns c =
     let a = c.args in
     let both = more a.way a.n a.count a.array.now c.requires.behind c.ranges.count.fits a.sum a.b _ _
     (front_more a.way a.n a.count a.array.now c.requires.behind c.ranges.count.fits a.sum a.b c.requires.count_in_bounds
-    (sym c.suits_front.ensures ∙ c.if-not-suits_front.false)) in record { value = both.0; array_after = both.1; }
+    (sym c.suits_front.ensures ∙ c.if-not-suits_front.false)) in record { value = both.0; array_after = both.1 }

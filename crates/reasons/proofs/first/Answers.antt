@@ -1,4 +1,3 @@
-
 use Rattle.reasons.proofs.first.Goals as goal
 
 pub returns-then-test : goal.returns-then-test

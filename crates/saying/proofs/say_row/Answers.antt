@@ -1,4 +1,3 @@
-
 use Rattle.saying.proofs.say_row.Goals as goal
 
 pub returns-then-brief : goal.returns-then-brief

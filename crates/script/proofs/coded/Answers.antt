@@ -5,9 +5,9 @@ use Rattle.script.proofs.coded.Goals as goal
 
 pub returns-in_default : goal.returns-in_default
 returns-in_default c = record {
-      value = rw c.in_default.is;
-      buf_after = refl;
-    }
+  value = rw c.in_default.is;
+  buf_after = refl;
+}
 
 pub overflow_cast-n : goal.overflow_cast-n
 overflow_cast-n c = omega (arith, high_end 1 255 c.in-Is.n c.if-n.true)
@@ -21,6 +21,6 @@ returns-then-n c =
 
 pub returns : goal.returns
 returns c = record {
-      value = rw (c.in-Is.is, c.if-n.false);
-      buf_after = refl;
-    }
+  value = rw (c.in-Is.is, c.if-n.false);
+  buf_after = refl;
+}

@@ -1,4 +1,3 @@
-
 use Rattle.status.proofs.receipts_open.Goals as goal
 
 pub returns-in-Nothing : goal.returns-in-Nothing

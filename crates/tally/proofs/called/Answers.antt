@@ -1,4 +1,3 @@
-
 use Rattle.tally.proofs.called.Goals as goal
 
 pub returns-in-Order : goal.returns-in-Order

@@ -1,4 +1,3 @@
-
 use Rattle.tally.proofs.ended.Goals as goal
 
 pub returns-in-Answered : goal.returns-in-Answered

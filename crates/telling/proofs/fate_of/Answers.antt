@@ -1,4 +1,3 @@
-
 use Rattle.telling.proofs.fate_of.Goals as goal
 
 pub returns-in-Nothing : goal.returns-in-Nothing

@@ -2,7 +2,6 @@ use Prim.Native.Nat.{◌≤◌, ◌-◌}
 use mathlib.Core.Path.{◌≡◌}
 use lib.ListN.{drop}
 use lib.Seq.{sets}
-use Rattle.text.proofs.Laws.{copied}
 use Rattle.text.proofs.copy.Given as goal
 
 -- What of `src` is still to be copied, put behind what was, makes the whole copy.

@@ -1,4 +1,3 @@
-use Prim.Native.Nat.{◌-◌}
 use mathlib.Core.Path.{sym, ◌∙◌}
 use native.Mathlib.Omega.{arith}
 use Rattle.text.proofs.Cutting.{place_turn, place_found, place_done}
@@ -12,11 +11,10 @@ returns-then-s-i c =
     sym (c.loop-i.invariant.1 ∙ place_found c.args.b c.args.s.now c.loop-i.i c.loop-i-test.true c.if-s-i.true)
 
 pub loop-i-preserved : goal.loop-i-preserved
-loop-i-preserved c =
-    (
-      omega arith,
-      c.loop-i.invariant.1 ∙ place_turn c.args.b c.args.s.now c.loop-i.i c.loop-i-test.true c.if-s-i.false,
-    )
+loop-i-preserved c = (
+  omega arith,
+  c.loop-i.invariant.1 ∙ place_turn c.args.b c.args.s.now c.loop-i.i c.loop-i-test.true c.if-s-i.false,
+)
 
 pub returns : goal.returns
 returns c =

@@ -11,18 +11,17 @@ loop-i-init c = (omega arith, refl, c.requires, refl)
 
 pub put_four-requires : goal.put_four-requires
 put_four-requires c = record {
-      four_bound = omega arith;
-      at_in_bounds = omega arith;
-    }
+  four_bound = omega arith;
+  at_in_bounds = omega arith;
+}
 
 pub loop-i-preserved : goal.loop-i-preserved
-loop-i-preserved c =
-    (
-      omega arith,
-      omega arith,
-      rw (c.put_four.ensures, length-sets) (omega arith),
-      rw c.put_four.ensures (four_turn _ _ _ c.loop-i-test.true ∙ c.loop-i.invariant.3),
-    )
+loop-i-preserved c = (
+  omega arith,
+  omega arith,
+  rw (c.put_four.ensures, length-sets) (omega arith),
+  rw c.put_four.ensures (four_turn _ _ _ c.loop-i-test.true ∙ c.loop-i.invariant.3),
+)
 
 pub shape_of-part : goal.shape_of-part
 shape_of-part c = simp length-sets at (ap length c.loop-i.invariant.3)

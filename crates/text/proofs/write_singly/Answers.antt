@@ -10,11 +10,10 @@ pub loop-i-init : goal.loop-i-init
 loop-i-init c = (omega arith, refl)
 
 pub loop-i-preserved : goal.loop-i-preserved
-loop-i-preserved c =
-    (
-      omega arith,
-      rw c.put_byte.ensures (sym (digits_turn _ _ _ c.loop-i-test.true) ∙ c.loop-i.invariant.1),
-    )
+loop-i-preserved c = (
+  omega arith,
+  rw c.put_byte.ensures (sym (digits_turn _ _ _ c.loop-i-test.true) ∙ c.loop-i.invariant.1),
+)
 
 pub shape_of-part : goal.shape_of-part
 shape_of-part c = simp length-sets at (ap length c.loop-i.invariant.1)

@@ -1,4 +1,3 @@
-
 use Rattle.till.proofs.nak_outside.Goals as goal
 
 pub returns : goal.returns

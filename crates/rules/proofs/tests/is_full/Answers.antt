@@ -1,4 +1,3 @@
-
 use Rattle.rules.proofs.tests.is_full.Goals as goal
 
 pub returns : goal.returns

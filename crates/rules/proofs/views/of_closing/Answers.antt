@@ -1,4 +1,3 @@
-
 use Rattle.rules.proofs.views.of_closing.Goals as goal
 
 pub returns : goal.returns

@@ -1,4 +1,3 @@
-
 use Rattle.rules.proofs.views.of_service.Goals as goal
 
 pub returns-in-Report : goal.returns-in-Report

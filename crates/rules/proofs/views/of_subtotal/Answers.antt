@@ -1,4 +1,3 @@
-
 use Rattle.rules.proofs.views.of_subtotal.Goals as goal
 
 pub returns-in-Nothing : goal.returns-in-Nothing

@@ -1,4 +1,3 @@
-
 use Rattle.rules.proofs.views.of_sums.Goals as goal
 
 pub returns-then-taxes : goal.returns-then-taxes

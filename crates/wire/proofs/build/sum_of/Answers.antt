@@ -1,5 +1,4 @@
 -- The loop's invariant: the sum so far with that of the rest is the whole sum, up to FFFFh.
-use Prim.Native.Nat.{◌-◌}
 use mathlib.Core.Path.{◌∙◌}
 use native.Mathlib.Omega.{arith}
 use Rattle.wire.proofs.Building.{sum_turn, sum_done}
@@ -15,12 +14,11 @@ pub overflow_add-sum : goal.overflow_add-sum
 overflow_add-sum c = omega (arith, c.shared_slice_known-1.given c.loop-i.i)
 
 pub loop-i-preserved : goal.loop-i-preserved
-loop-i-preserved c =
-    (
-      omega arith,
-      omega arith,
-      sum_turn c.args.part.now c.loop-i.i c.loop-i.sum c.loop-i-test.true ∙ c.loop-i.invariant.2,
-    )
+loop-i-preserved c = (
+  omega arith,
+  omega arith,
+  sum_turn c.args.part.now c.loop-i.i c.loop-i.sum c.loop-i-test.true ∙ c.loop-i.invariant.2,
+)
 
 pub returns : goal.returns
 returns c =

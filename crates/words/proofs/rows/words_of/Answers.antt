@@ -1,4 +1,3 @@
-
 use Rattle.words.proofs.rows.words_of.Goals as goal
 
 pub returns : goal.returns

@@ -11,6 +11,6 @@ returns-in-Says c =
 
 pub returns-in-GoesTo : goal.returns-in-GoesTo
 returns-in-GoesTo c = rw c.in-GoesTo.is record {
-      value = omega arith;
-      buf_after = refl;
-    }
+  value = omega arith;
+  buf_after = refl;
+}
