@@ -61,7 +61,7 @@ heard_answers seq code ear b a h =
     ap (λ n. cond n failed (read_as seq code b (ear_after ear b) (read ToTill ear.place b).event)) no-nak
     ∙ ap (read_as seq code b (ear_after ear b)) h.hears
     ∙ ap (λ s. cond (s && eqb a.code code) (answers a) failed) (eq-eqb a.seq seq h.seq_is)
-    ∙ ap (λ s. cond s (answers a) failed) (eq-eqb a.code code h.code-is)
+    ∙ ap (λ s. cond s (answers a) failed) (eq-eqb a.code code h.code_is)
 
 -- the last of a list
 abbrev last_of : {A : Type 0} → A → List A → A
@@ -126,7 +126,7 @@ byte_came k m frames since size b n big (answers a) e w =
         answer = a;
         can = built.0;
         seq = h.seq_is;
-        code = h.code-is;
+        code = h.code_is;
         before = built.1.0;
         whole = built.1.1;
       },

@@ -256,12 +256,12 @@ module _ {B : Type 0} (carry : B → Message → Carried B) where
 
   record Delivered (s : State B) (b : Begun) (store : B) (last : List ℕ) (cs : List Sent) : Type 0 where
     carried : (session carry s (all_arriving cs)).carried ≡ commands cs
-    store-after : (session carry s (all_arriving cs)).state.store ≡ carry_all carry store (commands cs)
+    store_after : (session carry s (all_arriving cs)).state.store ≡ carry_all carry store (commands cs)
     bring : AllBring carry s b store last cs
 
   delivered-from : (cs : List Sent) → delivery cs ≡ true → (before : Before) → New before cs → (b : Begun) → Fits ToDevice b → Left before cs b → (store : B)
       → Delivered (device (stands_at ToDevice b) before store) b store (last_answer before) cs
-  delivered-from [] e before new b f l store = record { carried = refl; store-after = refl; bring = tt }
+  delivered-from [] e before new b f l store = record { carried = refl; store_after = refl; bring = tt }
   delivered-from (c ∷ cs) e before new b f l store =
       let m = c.command in
       let sent = frame ToDevice m in
@@ -282,7 +282,7 @@ module _ {B : Type 0} (carry : B → Message → Carried B) where
             ∙ ap (λ ms. ms ++ (session carry (session carry s bytes).state (all_arriving cs)).carried) o.carried
             ∙ ap (λ (z : State B). m ∷ (session carry z (all_arriving cs)).carried) o.state
             ∙ ap (λ ms. m ∷ ms) rest.carried;
-        store-after = ap (λ (z : Session B). z.state.store) parts ∙ ap (λ (z : State B). (session carry z (all_arriving cs)).state.store) o.state ∙ rest.store-after;
+        store_after = ap (λ (z : Session B). z.state.store) parts ∙ ap (λ (z : State B). (session carry z (all_arriving cs)).state.store) o.state ∙ rest.store_after;
         bring = (o.bring, subst (λ (z : State B). AllBring carry z next k.store k.answer cs) (sym o.state) rest.bring);
       }
 
@@ -293,7 +293,7 @@ module _ {B : Type 0} (carry : B → Message → Carried B) where
   pub carries_out_that_very_list : (cs : List Sent) → delivery cs ≡ true → (store : B)
       → ((session carry (switched_on store) (all_arriving cs)).carried ≡ commands cs)
       × ((session carry (switched_on store) (all_arriving cs)).state.store ≡ carry_all carry store (commands cs))
-  carries_out_that_very_list cs e store = ((delivered cs e store).carried, (delivered cs e store).store-after)
+  carries_out_that_very_list cs e store = ((delivered cs e store).carried, (delivered cs e store).store_after)
 
   -- what each try brings: the bytes given back, and with which try the command is carried out
   pub brings_for_each_try : (cs : List Sent) → delivery cs ≡ true → (store : B) → AllBring carry (switched_on store) clear store [] cs

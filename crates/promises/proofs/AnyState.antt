@@ -65,5 +65,5 @@ in_any_state s switching = inl at_switching
 in_any_state s (at_till buffer h) = go (ltb (length buffer) 210) refl
   where
     go : (short : Bool) → ltb (length buffer) 210 ≡ short → Says s (at_till buffer h) (from_till (of_till buffer (cond short (till.stays TooShort s.till) (till.takes s.till h))))
-    go true e = inl (at_till_lem (at-till-end.row-7 (ltb-true (length buffer) 210 e)))
+    go true e = inl (at_till_lem (at-till-end.row_7 (ltb-true (length buffer) 210 e)))
     go false e = taken s.device buffer (ltb-false (length buffer) 210 e) s.till.next s.till.pending h

@@ -66,11 +66,11 @@ the_replies_are_the_only_ones s cs rs others a b = only_these s cs rs a ∙ sym 
 pub by_the_device : (s : Bench) (lent : Lent) (byte : ℕ) → ByTheTable s (at_device lent byte) (outcome_of s (at_device lent byte))
 by_the_device s lent byte =
     at_device_lem
-    (subst (λ t. ByDevice s.device lent byte (of_device lent t)) (sym (device-rows.as-the-table s.device lent byte)) (device-rows.has-its-row s.device lent byte))
+    (subst (λ t. ByDevice s.device lent byte (of_device lent t)) (sym (device-rows.as_the_table s.device lent byte)) (device-rows.has_its_row s.device lent byte))
 
 pub by_the_till_end : (s : Bench) → till-rows.tries_of s.till.pending ≤ 5 → (buffer : List ℕ) (h : till.Happening)
     → ByTheTable s (at_till buffer h) (outcome_of s (at_till buffer h))
-by_the_till_end s few buffer h = at_till_lem (till-rows.has-its-row s.till buffer h few)
+by_the_till_end s few buffer h = at_till_lem (till-rows.has_its_row s.till buffer h few)
 
 -- which every event leaves: the books are such as a fresh device comes to
 pub deed_stays : (b : Books) (m : Match) (let-pass : Bool) (p : Parsed) → Reached b → Reached (deed_for b m let-pass p).books

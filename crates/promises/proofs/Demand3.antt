@@ -162,13 +162,13 @@ seq_differs place m e (h ∷ hs) (ways ∷ rest) p =
 
 -- what crosses the line: the bytes and the commands are the till end's, and each try is one of its command's
 record Crosses (hs : List Handed) (rest : List (List Arrival)) : Type 0 where
-  may-come : all_may_come (over_the_line hs rest) ≡ true
+  may_come : all_may_come (over_the_line hs rest) ≡ true
   same_bytes : bytes_arriving hs rest ≡ all_arriving (over_the_line hs rest)
-  same-commands : commands (over_the_line hs rest) ≡ taken_commands hs
-  is-delivery : each_one_whole rest ≡ true → delivery (over_the_line hs rest) ≡ true
+  same_commands : commands (over_the_line hs rest) ≡ taken_commands hs
+  is_delivery : each_one_whole rest ≡ true → delivery (over_the_line hs rest) ≡ true
 
 crosses : (hs : List Handed) (place : ℕ) → AllInPlace place hs → (rest : List (List Arrival)) → all_arrive hs rest ≡ true → Crosses hs rest
-crosses [] place p [] e = record { may-come = refl; same_bytes = refl; same-commands = refl; is-delivery = λ w. refl }
+crosses [] place p [] e = record { may_come = refl; same_bytes = refl; same_commands = refl; is_delivery = λ w. refl }
 crosses [] place p (ways ∷ rest) e = absurd (false≢true e)
 crosses (h ∷ hs) place p [] e = absurd (false≢true e)
 crosses (h ∷ hs) place p (ways ∷ rest) e =
@@ -182,17 +182,17 @@ crosses (h ∷ hs) place p (ways ∷ rest) e =
     let may = and_true (sendable ToDevice m) (all (may_arrive f) ways) own.can tries.0 in
     let cs = over_the_line hs rest in
     record {
-      may-come = and_true (sendable ToDevice m && all (may_arrive f) ways) (all_may_come cs) may others.may-come;
+      may_come = and_true (sendable ToDevice m && all (may_arrive f) ways) (all_may_come cs) may others.may_come;
       same_bytes = ap (λ z. z ++ bytes_arriving hs rest) (ap (λ z. frames_arriving z ways) own.same ∙ tries.1)
           ∙ ap (λ z. tries_arriving f ways ++ z) others.same_bytes;
-      same-commands = ap (λ z. m ∷ z) others.same-commands;
-      is-delivery = λ w.
+      same_commands = ap (λ z. m ∷ z) others.same_commands;
+      is_delivery = λ w.
           let whole = both (any is_whole ways) (each_one_whole rest) w in
           and_true (tried (record { command = m; tries = ways }) && differs_from m cs) (delivery cs)
           (and_true (tried (record { command = m; tries = ways })) (differs_from m cs)
           (and_true (sendable ToDevice m && all (may_arrive f) ways) (any is_whole ways) may whole.0)
           (seq_differs place m p.0.seq hs rest p.1))
-          (others.is-delivery whole.1);
+          (others.is_delivery whole.1);
     }
 
 -- whatever happens at a fresh till end, and whatever the line does to each frame that it hands out, at least one of each command arriving whole: the device
@@ -203,11 +203,11 @@ pub the_till_s_commands_are_carried_out : (sheet : List Line) (ls : List LentEve
     × ((recording sheet (bytes_arriving (handed_in ls) ways)).state.store ≡ carry_all carry (fresh_store sheet) (taken_commands (handed_in ls)))
 the_till_s_commands_are_carried_out sheet ls ways e w =
     let x = crosses (handed_in ls) 0 (frames_are_tries ls) ways e in
-    let d = x.is-delivery w in
+    let d = x.is_delivery w in
     let all_done = carries_out_the_list sheet (over_the_line (handed_in ls) ways) d in (
       d,
-      ap (λ bytes. (recording sheet bytes).carried) x.same_bytes ∙ all_done.0 ∙ x.same-commands,
-      ap (λ bytes. (recording sheet bytes).state.store) x.same_bytes ∙ all_done.1 ∙ ap (carry_all carry (fresh_store sheet)) x.same-commands,
+      ap (λ bytes. (recording sheet bytes).carried) x.same_bytes ∙ all_done.0 ∙ x.same_commands,
+      ap (λ bytes. (recording sheet bytes).state.store) x.same_bytes ∙ all_done.1 ∙ ap (carry_all carry (fresh_store sheet)) x.same_commands,
     )
 
 -- and each at most once and in order, if whole ones are missing
@@ -219,11 +219,11 @@ pub the_till_s_commands_at_most_once : (sheet : List Line) (ls : List LentEvent)
 the_till_s_commands_at_most_once sheet ls ways e =
     let x = crosses (handed_in ls) 0 (frames_are_tries ls) ways e in
     let cs = over_the_line (handed_in ls) ways in
-    let heard-so = carries_out_what_is_heard carry cs x.may-come (fresh_store sheet) in (
+    let heard-so = carries_out_what_is_heard carry cs x.may_come (fresh_store sheet) in (
       ap (λ bytes. (recording sheet bytes).carried) x.same_bytes ∙ heard-so.0,
       ap (λ bytes. (recording sheet bytes).state.store) x.same_bytes ∙ heard-so.1,
-      subst (λ ms. Sublist (recording sheet (bytes_arriving (handed_in ls) ways)).carried ms) x.same-commands
-          (subst (λ bytes. Sublist (recording sheet bytes).carried (commands cs)) (sym x.same_bytes) (carries_out_a_part carry cs x.may-come (fresh_store sheet))),
+      subst (λ ms. Sublist (recording sheet (bytes_arriving (handed_in ls) ways)).carried ms) x.same_commands
+          (subst (λ bytes. Sublist (recording sheet bytes).carried (commands cs)) (sym x.same_bytes) (carries_out_a_part carry cs x.may_come (fresh_store sheet))),
     )
 
 -- exactly those of which a frame arrived whole, where no cut one lacks only its last byte and these neighbours differ: the till end's SEQ comes again
@@ -234,4 +234,4 @@ pub the_till_s_commands_that_arrived : (sheet : List Line) (ls : List LentEvent)
 the_till_s_commands_that_arrived sheet ls ways e f d =
     let x = crosses (handed_in ls) 0 (frames_are_tries ls) ways e in
     ap (λ bytes. (recording sheet bytes).carried) x.same_bytes
-    ∙ (carries_out_those_that_arrived (over_the_line (handed_in ls) ways) x.may-come f d (fresh_store sheet)).0
+    ∙ (carries_out_those_that_arrived (over_the_line (handed_in ls) ways) x.may_come f d (fresh_store sheet)).0

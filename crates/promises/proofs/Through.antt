@@ -47,7 +47,7 @@ more_behind s h gives carried part left rest e =
 record Called (f : Machines) (part : List ℕ) (p : PartHeard) : Type 0 where
   carried : List Message
   texts_are : texts_in p.after.shows p.after.lent.display ≡ texts_of carried
-  goes_on_lem : session carry (state_in f) part
+  goes_on : session carry (state_in f) part
       ≡ behind (take p.after.count p.after.lent.buffer) carried (session carry (state_of p.after.machine) (drop p.taken part))
 
 -- a call carries out one command at most
@@ -65,7 +65,7 @@ module _ (f : Machines) (ok : DeviceOk f.device) (lent : Lent) (part : List ℕ)
       either all = cond all (hearing f.device lent part) (record { after = not_taken f.device lent; call = Quiet; taken = 0 })
 
       go : (all : Bool) → enough lent ≡ all → (either all).after.count ≤ 217 → Called f part (either all)
-      go false e few = record { carried = []; texts_are = refl; goes_on_lem = refl }
+      go false e few = record { carried = []; texts_are = refl; goes_on = refl }
       go true e few =
           let p = part_is part f.device lent ok.frames ok.lasts (long lent e).room ok.short few in
           let h : PartHeard = hearing f.device lent part in
@@ -76,17 +76,17 @@ module _ (f : Machines) (ok : DeviceOk f.device) (lent : Lent) (part : List ℕ)
                 ap (λ z. texts_in z h.after.lent.display) p.shows_is
                 ∙ ap (texts_in (display_of (texts_of carried))) p.display_is
                 ∙ texts_stand carried (one_carried h.call h.after.machine.frame) lent.display (long lent e).display;
-            goes_on_lem = p.goes_on ∙ ap (λ z. behind z carried (session carry (state_of h.after.machine) (drop h.taken part))) (sym p.given_is);
+            goes_on = p.goes_on ∙ ap (λ z. behind z carried (session carry (state_of h.after.machine) (drop h.taken part))) (sym p.given_is);
           }
 
 -- all calls
 record Through (f g : Machines) (bytes gives : List ℕ) (texts : List (List ℕ)) : Type 0 where
   carried : List Message
   texts_are : texts ≡ texts_of carried
-  is-session : session carry (state_in f) bytes ≡ record { gives = gives; carried = carried; state = state_in g }
+  is_session : session carry (state_in f) bytes ≡ record { gives = gives; carried = carried; state = state_in g }
 
 through : {f g : Machines} {bytes gives : List ℕ} {texts : List (List ℕ)} → DeviceOk f.device → HeardThrough f bytes gives texts g → Through f g bytes gives texts
-through ok all_taken = record { carried = []; texts_are = refl; is-session = refl }
+through ok all_taken = record { carried = []; texts_are = refl; is_session = refl }
 through {f} {g} ok (one_call_lem {gives = gives} {texts = texts} lent part rest more) =
     let p : PartHeard = part_after f lent part in
     let one = called f ok lent part in
@@ -96,9 +96,9 @@ through {f} {g} ok (one_call_lem {gives = gives} {texts = texts} lent part rest 
       texts_are =
           ap (λ z. z ++ texts) one.texts_are ∙ ap (λ z. texts_of one.carried ++ z) later.texts_are
           ∙ sym (texts_append one.carried later.carried);
-      is-session =
+      is_session =
           more_behind (state_in f) (state_in (handed_on f (hear lent part))) (take p.after.count p.after.lent.buffer) one.carried part (drop p.taken part) rest one.goes_on
-          ∙ ap (behind (take p.after.count p.after.lent.buffer) one.carried) later.is-session;
+          ∙ ap (behind (take p.after.count p.after.lent.buffer) one.carried) later.is_session;
     }
 
 -- the theorem: whatever buffers are lent, and however the bytes come in parts, all that the fields of a device that is switched on give back, what they
@@ -109,7 +109,7 @@ pub the_calls_are_the_session : (f g : Machines) → DeviceOk f.device → (stor
     (gives ≡ s.gives) × ((store_of g.device ≡ s.state.store) × (texts ≡ texts_of s.carried))
 the_calls_are_the_session f g ok store on bytes gives texts h =
     let t = through ok h in
-    let same : session carry (switched_on store) bytes ≡ record { gives = gives; carried = t.carried; state = state_in g } = sym (ap (λ s. session carry s bytes) on) ∙ t.is-session in (
+    let same : session carry (switched_on store) bytes ≡ record { gives = gives; carried = t.carried; state = state_in g } = sym (ap (λ s. session carry s bytes) on) ∙ t.is_session in (
       sym (ap (λ (s : Session Store). s.gives) same),
       (sym (ap (λ (s : Session Store). s.state.store) same), t.texts_are ∙ sym (ap (λ (s : Session Store). texts_of s.carried) same)),
     )
