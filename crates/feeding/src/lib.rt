@@ -60,7 +60,7 @@ fn begun(mut input: Stdin, errors: Stderr, event: &mut [u8]) -> bool
 }
 
 fn unread(errors: Stderr, why: Error) {
-    streams::fail(&errors, b"error: standard input can't be read", &why);
+    system::fail(&errors, b"error: standard input can't be read", &why);
 }
 
 // The bytes of an event behind the first, where all of them come.

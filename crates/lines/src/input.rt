@@ -75,5 +75,5 @@ fn next_line(mut input: Stdin, errors: Stderr, line: &mut [u8]) -> Typed
 }
 
 fn unread(errors: Stderr, why: Error) {
-    streams::fail(&errors, b"error: standard input can't be read", &why);
+    system::fail(&errors, b"error: standard input can't be read", &why);
 }

@@ -10,9 +10,7 @@ use std::env::{Env, FillError};
 use std::fs::{File, OpenOptions};
 use std::io::{Error, ErrorKind, Result, Stderr, Stdin, Stdout};
 use std::rt::Files;
-
-// As many bytes as any path has.
-const NAME_ROOM: usize = 4096;
+use system::NAME_ROOM;
 
 // The numbers of what is open: standard input, standard output, and the files; -1 is none.
 pub const INPUT: i32 = 0;
@@ -143,12 +141,13 @@ fn earlier_at<R: Env + Files<File = File>>(rt: &R, errors: Stderr, place: usize)
         return no_file();
     }
     let mut room = [0u8; NAME_ROOM];
-    let name = name_at(rt, place, &mut room);
+    let n = system::arg(rt, place, &mut room);
+    let name = &room[..n];
     told(
         errors,
         b"error: the recording can't be opened: ",
         name,
-        open_read(rt, name),
+        system::open_read(rt, name),
     )
 }
 
@@ -167,8 +166,8 @@ fn told(errors: Stderr, what: &[u8], name: &[u8], opened: Result<File>) -> Found
             ready: true,
         },
         Err(why) => {
-            streams::write(&errors, what);
-            streams::fail(&errors, name, &why);
+            system::write(&errors, what);
+            system::fail(&errors, name, &why);
             Found {
                 file: None,
                 ready: false,
@@ -178,7 +177,7 @@ fn told(errors: Stderr, what: &[u8], name: &[u8], opened: Result<File>) -> Found
 }
 
 fn refuse(errors: Stderr) {
-    streams::write(
+    system::write(
         &errors,
         b"usage: printer [-l LINE] [RECORDING]..\nerror: these arguments are of no such form\n",
     );
@@ -209,42 +208,17 @@ fn argument<R: Env>(rt: &R, place: usize) -> Option<Argument> {
     }
 }
 
-// The bytes of the argument's name; none where there is no such argument, or where they are too many.
-fn name_at<'a, R: Env>(rt: &R, place: usize, room: &'a mut [u8; NAME_ROOM]) -> &'a [u8] {
-    match rt.arg(place, room) {
-        Ok(n) => &room[..n],
-        Err(_) => &room[..0],
-    }
-}
-
-// A name is UTF-8.
-fn text_of(name: &[u8]) -> Result<&str> {
-    match str::from_utf8(name) {
-        Ok(text) => Ok(text),
-        Err(_) => Err(Error::new(ErrorKind::InvalidInput, "the name is no UTF-8")),
-    }
-}
-
-fn open_read<R: Files<File = File>>(rt: &R, name: &[u8]) -> Result<File> {
-    OpenOptions::new().read(true).open(rt, text_of(name)?)
-}
-
-fn open_update<R: Files<File = File>>(rt: &R, name: &[u8]) -> Result<File> {
-    OpenOptions::new()
-        .read(true)
-        .write(true)
-        .open(rt, text_of(name)?)
-}
-
 fn open_append<R: Files<File = File>>(rt: &R, name: &[u8]) -> Result<File> {
-    OpenOptions::new().append(true).open(rt, text_of(name)?)
+    OpenOptions::new()
+        .append(true)
+        .open(rt, system::text_of(name)?)
 }
 
 fn make<R: Files<File = File>>(rt: &R, name: &[u8]) -> Result<File> {
     OpenOptions::new()
         .append(true)
         .create_new(true)
-        .open(rt, text_of(name)?)
+        .open(rt, system::text_of(name)?)
 }
 
 // The argument's name, as a recording; place 0 is none.
@@ -257,7 +231,8 @@ fn recording_at<R: Env + Files<File = File>>(rt: &R, errors: Stderr, place: usiz
         };
     }
     let mut room = [0u8; NAME_ROOM];
-    let name = name_at(rt, place, &mut room);
+    let n = system::arg(rt, place, &mut room);
+    let name = &room[..n];
     match open_recording(rt, name) {
         Ok(tape) => tape,
         Err(why) => no_tape(errors, name, why),
@@ -267,7 +242,7 @@ fn recording_at<R: Env + Files<File = File>>(rt: &R, errors: Stderr, place: usiz
 // Opened or made; it and its folder are safe.
 fn open_recording<R: Files<File = File>>(rt: &R, name: &[u8]) -> Result<Tape> {
     let tape = open_or_make(rt, name)?;
-    let old = open_read(rt, name)?;
+    let old = system::open_read(rt, name)?;
     tape.sync_all()?;
     make_folder_safe(rt, name)?;
     Ok(Tape {
@@ -291,8 +266,8 @@ fn open_or_make<R: Files<File = File>>(rt: &R, name: &[u8]) -> Result<File> {
 }
 
 fn no_tape(errors: Stderr, name: &[u8], why: Error) -> Tape {
-    streams::write(&errors, b"error: the recording can't be kept: ");
-    streams::fail(&errors, name, &why);
+    system::write(&errors, b"error: the recording can't be kept: ");
+    system::fail(&errors, name, &why);
     Tape {
         old: None,
         tape: None,
@@ -313,7 +288,7 @@ fn make_folder_safe<R: Files<File = File>>(rt: &R, name: &[u8]) -> Result<()> {
 }
 
 fn sync<R: Files<File = File>>(rt: &R, folder: &[u8]) -> Result<()> {
-    open_read(rt, folder)?.sync_all()
+    system::open_read(rt, folder)?.sync_all()
 }
 
 // The argument's name, as a line; place 0 is none.
@@ -322,11 +297,12 @@ fn line_at<R: Env + Files<File = File>>(rt: &R, errors: Stderr, place: usize) ->
         return no_file();
     }
     let mut room = [0u8; NAME_ROOM];
-    let name = name_at(rt, place, &mut room);
+    let n = system::arg(rt, place, &mut room);
+    let name = &room[..n];
     told(
         errors,
         b"error: the line can't be opened: ",
         name,
-        open_update(rt, name),
+        system::open_update(rt, name),
     )
 }

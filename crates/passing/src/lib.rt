@@ -86,13 +86,13 @@ fn told(errors: Stderr, source: Source, got: Result<usize>) {
 fn broken(errors: Stderr, source: Source, why: Error) {
     match source {
         Source::Recording => {
-            streams::fail(&errors, b"error: the recording can't be read", &why);
+            system::fail(&errors, b"error: the recording can't be read", &why);
         }
         Source::Input => {
-            streams::fail(&errors, b"error: standard input can't be read", &why);
+            system::fail(&errors, b"error: standard input can't be read", &why);
         }
         Source::Line => {
-            streams::fail(&errors, b"error: the line can't be read", &why);
+            system::fail(&errors, b"error: the line can't be read", &why);
         }
     }
 }
@@ -107,7 +107,7 @@ fn act(held: &Held, ends: Ends, next: Next, heard: u64, bytes: &[u8]) -> bool {
         Next::Answer => keep(held, ends.tape, bytes),
         Next::Wait => true,
         Next::End => true,
-        Next::Closed => streams::write(&held.errors, b"error: the line is closed\n"),
+        Next::Closed => system::write(&held.errors, b"error: the line is closed\n"),
         Next::Broken => false,
     }
 }
@@ -123,13 +123,13 @@ fn replayed(held: &Held, ends: Ends, before: u64, n: usize) -> bool {
 
 // Of the last one also how long it is: its end is looked for where nothing is read.
 fn report(held: &Held, ends: Ends, heard: u64) {
-    streams::number(&held.errors, heard);
+    system::number(&held.errors, heard);
     if !options::names_left(ends) {
         let size = keeping::size_of(end_of(held, ends.tape));
-        streams::write(&held.errors, b" of ");
-        streams::number(&held.errors, size);
+        system::write(&held.errors, b" of ");
+        system::number(&held.errors, size);
     }
-    streams::write(&held.errors, b" bytes of the recording are heard\n");
+    system::write(&held.errors, b" bytes of the recording are heard\n");
 }
 
 // The place of a file's end, -1 where that can't be told.
@@ -153,7 +153,7 @@ fn keep(held: &Held, tape: i32, bytes: &[u8]) -> bool {
     match written(held, tape, bytes) {
         Ok(()) => true,
         Err(why) => {
-            streams::fail(&held.errors, b"error: the recording can't be written", &why);
+            system::fail(&held.errors, b"error: the recording can't be written", &why);
             false
         }
     }
@@ -192,7 +192,7 @@ fn is_safe(held: &Held, tape: i32, heard: u64) -> bool {
         return true;
     }
     if let Err(why) = synced(held, tape) {
-        streams::fail(
+        system::fail(
             &held.errors,
             b"error: the recording can't be made safe",
             &why,
@@ -201,7 +201,7 @@ fn is_safe(held: &Held, tape: i32, heard: u64) -> bool {
     }
     let whole = keeping::is_whole(end_of(held, tape), heard);
     if !whole {
-        streams::write(
+        system::write(
             &held.errors,
             b"error: the recording was changed by another hand\n",
         );
@@ -225,8 +225,8 @@ fn write(held: &Held, ends: Ends, given: &[u8]) -> bool {
 
 fn unwritten(errors: Stderr, online: bool, why: Error) {
     if online {
-        streams::fail(&errors, b"error: the line can't be written", &why);
+        system::fail(&errors, b"error: the line can't be written", &why);
         return;
     }
-    streams::fail(&errors, b"error: standard output can't be written", &why);
+    system::fail(&errors, b"error: standard output can't be written", &why);
 }
