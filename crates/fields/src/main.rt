@@ -1,7 +1,7 @@
 // What each of a list of commands is read as. A record is the command's number, the number of its data bytes, and the data.
 #![tactic(auto)]
 
-ghost use Rattle.io.specs.Counts.{IsPrefixLen};
+ghost use Rattle.std.specs.Prelude.{◌≤◌, length};
 
 use kinds::{Adjust, Command, Mode, Parsed, Password, Payment, Sale, Service, Tender};
 use std::io::{Read, Stderr, Stdin};
@@ -101,7 +101,7 @@ fn main(rt: HostRuntime) {
 
 // The whole input, as far as the buffer reaches.
 fn all(mut input: Stdin, errors: Stderr, buf: &mut [u8]) -> usize
-    ensures { IsPrefixLen result buf.new }
+    ensures { result ≤ length buf.new }
 {
     let mut done = 0;
     while done < buf.len() {
