@@ -2,6 +2,8 @@
 // as soon as it is there. With a RECORDING it stands where that ends, and keeps there what it hears; each further one is a switching on (LINE).
 #![tactic(auto)]
 
+ghost use Rattle.std.specs.Prelude.{◌≡◌, length};
+
 use display::MOST_SHOWN;
 use kept::Kept;
 use opening::Held;
@@ -33,8 +35,8 @@ fn run<R: Env + Files<File = File>>(rt: &R, held: &mut Held, first: Ends) {
     let mut ends = first;
     let mut frame = [0u8; FRAME_ROOM];
     let mut last = [0u8; ANSWER_ROOM];
-    let mut out = [0u8; OUT_ROOM];
-    let mut bytes = [0u8; PART_ROOM];
+    let mut out = out_room();
+    let mut bytes = part_room();
     let mut kept = kept::fresh_kept();
     let mut stage = keeping::first_stage(ends.replays);
     let mut turns = 9223372036854775807u64;
@@ -84,4 +86,16 @@ fn hear(
         out,
         &mut none[0..0],
     )
+}
+
+fn part_room() -> [u8; PART_ROOM]
+    ensures { length result ≡ 16384 }
+{
+    [0u8; PART_ROOM]
+}
+
+fn out_room() -> [u8; OUT_ROOM]
+    ensures { length result ≡ 3555328 }
+{
+    [0u8; OUT_ROOM]
 }
