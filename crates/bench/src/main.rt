@@ -7,24 +7,29 @@ mod tell;
 
 use desk::{BACK_ROOM, ENDED};
 use display::MOST_SHOWN;
-use libc::STDERR_FILENO;
 use reader::FRAME_ROOM;
+use std::io::Stdin;
+use system::Outlets;
 use wire::ANSWER_ROOM;
 use witness::see;
 
-fn main() {
-    if 1 < os::arg_count() {
-        io::write_all(
-            STDERR_FILENO,
+fn main(rt: HostRuntime) {
+    let to = Outlets {
+        output: rt.stdout(),
+        errors: rt.stderr(),
+    };
+    if 1 < system::arg_count(&rt) {
+        system::write(
+            &to.errors,
             b"error: usage: bench <SCRIPT: the script comes on standard input, and there are no arguments\n",
         );
         return;
     }
-    play();
+    play(rt.stdin(), to);
 }
 
 // The device is held here alone. A turn is one call of it, where bytes that arrived are left to hear, or else one step of what stands around it.
-fn play() {
+fn play(input: Stdin, to: Outlets) {
     let mut kept = kept::fresh_kept();
     let mut frame = [0u8; FRAME_ROOM];
     let mut last = [0u8; ANSWER_ROOM];
@@ -38,7 +43,7 @@ fn play() {
     while turns < 0xFFFFFFFFFFFFFFFF {
         turns += 1;
         if ENDED <= desk.phase {
-            tell::end(kept, desk.tally, desk.phase == ENDED);
+            tell::end(to, kept, desk.tally, desk.phase == ENDED);
             return;
         }
         if desk.place < desk.got {
@@ -52,11 +57,20 @@ fn play() {
             let reason = seen.reason;
             let shows = seen.shows;
             kept = after;
-            tell::call(call, seen.number, seen.taken, reason);
-            tell::shows(shows, &text);
+            tell::call(to, call, seen.number, seen.taken, reason);
+            tell::shows(to, shows, &text);
             desk = desk::heard(desk, call, seen.taken, &buf, seen.count, &mut back);
             continue;
         }
-        desk = around::next(desk, &mut sent, &mut answer, &mut out, &mut arrived, &back);
+        desk = around::next(
+            input,
+            to,
+            desk,
+            &mut sent,
+            &mut answer,
+            &mut out,
+            &mut arrived,
+            &back,
+        );
     }
 }

@@ -6,46 +6,48 @@ mod serial;
 mod tell;
 
 use clerk::{ENDED, STOPPED};
-use libc::STDERR_FILENO;
 use reader::FRAME_ROOM;
+use std::env::Env;
+use std::fs::File;
+use std::io::Stdin;
+use system::{NAME_ROOM, Outlets};
 use wishes::Errand;
 
-fn main() {
-    let errand = arguments();
+fn main(rt: HostRuntime) {
+    let to = Outlets {
+        output: rt.stdout(),
+        errors: rt.stderr(),
+    };
+    let errand = arguments(&rt);
     if !errand.fits {
-        io::write_all(
-            STDERR_FILENO,
-            b"error: usage: cashier [-k] -l LINE <SCRIPT\n",
-        );
+        system::write(&to.errors, b"error: usage: cashier [-k] -l LINE <SCRIPT\n");
         return;
     }
-    open(errand.line, errand.keeps);
+    let mut path = [0u8; NAME_ROOM];
+    let n = system::arg(&rt, errand.line, &mut path);
+    match system::open_update(&rt, &path[..n]) {
+        Ok(line) => play(rt.stdin(), to, &line, errand.keeps),
+        Err(why) => {
+            system::fail(
+                &to.errors,
+                b"error: the line can't be opened for reading and writing",
+                &why,
+            );
+        }
+    }
 }
 
 // An option has two letters: of a longer argument as much is looked at as shows that it is none.
-fn arguments() -> Errand {
+fn arguments(rt: &impl Env) -> Errand {
     let mut first = [0u8; 8];
     let mut second = [0u8; 8];
-    let n = os::arg(1, &mut first);
-    let m = os::arg(2, &mut second);
-    wishes::errand_of(os::arg_count(), &first[..n], &second[..m])
-}
-
-// The line that an argument names.
-fn open(i: usize, keep: bool) {
-    let mut path = io::buffer();
-    let n = os::arg(i, &mut path);
-    let fd = os::open_update(&path[..n]);
-    if fd < 0 {
-        os::fail(b"error: the line can't be opened for reading and writing");
-        return;
-    }
-    play(fd, keep);
-    libc::close(fd);
+    let n = system::arg(rt, 1, &mut first);
+    let m = system::arg(rt, 2, &mut second);
+    wishes::errand_of(system::arg_count(rt), &first[..n], &second[..m])
 }
 
 // Step after step, until the script ends or something stops it.
-fn play(fd: i32, keep: bool) {
+fn play(input: Stdin, to: Outlets, line: &File, keep: bool) {
     let mut sent = [0u8; FRAME_ROOM];
     let mut answer = [0u8; FRAME_ROOM];
     let mut out = [0u8; FRAME_ROOM];
@@ -54,9 +56,18 @@ fn play(fd: i32, keep: bool) {
     while turns < 0xFFFFFFFFFFFFFFFF {
         turns += 1;
         if ENDED <= clerk.phase {
-            tell::end(clerk.phase == STOPPED, clerk.lines, clerk.why);
+            tell::end(to, clerk.phase == STOPPED, clerk.lines, clerk.why);
             return;
         }
-        clerk = serial::next(clerk, fd, keep, &mut sent, &mut answer, &mut out);
+        clerk = serial::next(
+            input,
+            to,
+            clerk,
+            line,
+            keep,
+            &mut sent,
+            &mut answer,
+            &mut out,
+        );
     }
 }

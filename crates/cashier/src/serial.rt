@@ -5,10 +5,15 @@ use lines::LINE_ROOM;
 use reader::FRAME_ROOM;
 use script::{Act, MOST_CONTENT};
 use sentences::front;
+use std::fs::File;
+use std::io::{Read, Stdin, Write};
+use system::Outlets;
 
 pub(crate) fn next(
+    input: Stdin,
+    to: Outlets,
     clerk: Clerk,
-    fd: i32,
+    line: &File,
     keep: bool,
     sent: &mut [u8; FRAME_ROOM],
     answer: &mut [u8; FRAME_ROOM],
@@ -16,52 +21,60 @@ pub(crate) fn next(
 ) -> Clerk {
     let phase = clerk.phase;
     if phase == PLAYS {
-        return play(clerk, sent, out);
+        return play(input, to, clerk, sent, out);
     }
     if phase == HEARS {
-        return hear(clerk, fd, &*sent, answer, out);
+        return hear(clerk, line, &*sent, answer, out);
     }
     let word = clerk.word;
     if phase == SENDS {
-        write(fd, &*out, till::count(word));
+        write(to, line, &*out, till::count(word));
         return clerk::written(clerk);
     }
-    tell::says(word, &*out);
+    tell::says(to, word, &*out);
     clerk::told(clerk, keep)
 }
 
 // One line of the script.
-fn play(clerk: Clerk, sent: &mut [u8; FRAME_ROOM], out: &mut [u8]) -> Clerk {
+fn play(
+    input: Stdin,
+    to: Outlets,
+    clerk: Clerk,
+    sent: &mut [u8; FRAME_ROOM],
+    out: &mut [u8],
+) -> Clerk {
     let mut line = [0u8; LINE_ROOM];
     let mut content = [0u8; MOST_CONTENT];
-    let next = lines::input::next_act(&mut line, &mut content);
+    let next = lines::input::next_act(input, to.errors, &mut line, &mut content);
     if !next.there {
         return clerk::ended(clerk);
     }
     let act = next.act;
     if let Act::Command { code, count: _ } = act {
-        tell::heading(code, front(&line, next.count));
+        tell::heading(to, code, front(&line, next.count));
     }
     clerk::play(clerk, act, &content, sent, out)
 }
 
 // A frame that can't be written is one that nobody hears.
-fn write(fd: i32, out: &[u8; FRAME_ROOM], count: usize) {
-    if !io::write_all(fd, front(out, count)) {
-        os::fail(b"error: the line can't be written");
+fn write(to: Outlets, mut line: &File, out: &[u8; FRAME_ROOM], count: usize) {
+    if let Err(why) = line.write_all(front(out, count)) {
+        system::fail(&to.errors, b"error: the line can't be written", &why);
     }
 }
 
 // One read. Where it fails, it brings nothing.
 fn hear(
     clerk: Clerk,
-    fd: i32,
+    mut line: &File,
     sent: &[u8; FRAME_ROOM],
     answer: &mut [u8; FRAME_ROOM],
     out: &mut [u8],
 ) -> Clerk {
     let mut came = [0u8; FRAME_ROOM];
-    let got = libc::read(fd, &mut came);
-    let n = io::count(got, &came);
+    let n = match line.read(&mut came) {
+        Ok(n) => n,
+        Err(_) => 0,
+    };
     clerk::hear(clerk, sent, answer, front(&came, n), out)
 }

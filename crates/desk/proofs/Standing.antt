@@ -2,7 +2,7 @@
 use Prim.Native.Nat.{ℕ, zero, suc, ◌+◌, ◌≤◌, min}
 use mathlib.Core.Path.{◌≡◌, refl, sym, ap, ◌∙◌}
 use mathlib.Core.Bool.{Bool, true, false}
-use mathlib.Core.List.{List, [], ◌++◌}
+use mathlib.Core.List.{List}
 use native.Mathlib.Omega.{arith}
 use lib.ListN.{length, take, drop, length-set, length-take}
 use lib.Seq.{sets, sets-eq, take_at}
@@ -17,13 +17,12 @@ use Rattle.faults.specs.declared.Faults.{Faults}
 use Rattle.faults.specs.Faults.{replaced, with_fault, fault_of, arrived_of}
 use Rattle.faults.specs.declared.Fault.{Fault}
 use Rattle.faults.specs.declared.Fault.TheVariants.{Nothing, Becomes, Lost}
-use Rattle.exchange.specs.Exchange.{Heard, heard_back}
+use Rattle.exchange.specs.Exchange.{heard_back}
 use Rattle.till.specs.Words.{count_of}
 use Rattle.till.specs.declared.Till.{Till}
 use Rattle.till.specs.declared.Said.{Said}
 use Rattle.till.specs.declared.Word.{Word}
 use Rattle.desk.specs.declared.Desk.{Desk}
-use Rattle.desk.specs.declared.Told.{Told}
 use Rattle.desk.specs.Desk.{sends, hears, try_of, at_try, behind, finished, tried, carried, told, arriving, coming, on_way, played, line_of, heard_by}
 
 -- a word hands out a try, or none

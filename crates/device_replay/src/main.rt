@@ -5,24 +5,32 @@ use display::{Display, MOST_SHOWN};
 use events::{DEVICE_ROOM, End, Lent};
 use feeding::Fed;
 use kept::{Kept, Next};
-use libc::{STDERR_FILENO, STDOUT_FILENO};
 use reader::FRAME_ROOM;
 use sheet::MOST_LINES;
+use std::io::{Error, ErrorKind, Result};
+use system::Outlets;
 use wire::ANSWER_ROOM;
 
+// More than all that is given back on an event.
+const BUF_ROOM: usize = 65536;
+
 // Events are read one by one to the end of the input.
-fn main() {
+fn main(rt: HostRuntime) {
+    let to = Outlets {
+        output: rt.stdout(),
+        errors: rt.stderr(),
+    };
     let mut frame = [0u8; FRAME_ROOM];
     let mut last = [0u8; ANSWER_ROOM];
     let mut event = [0u8; DEVICE_ROOM];
-    let mut buf = io::large_buffer();
+    let mut buf = [0u8; BUF_ROOM];
     let mut display = [0u8; MOST_SHOWN];
     let mut kept = kept::fresh_kept();
     let mut events: u64 = 0;
     while events < 0xFFFFFFFFFFFFFFFF {
-        let fed = feeding::next_event(End::Device, &mut event);
+        let fed = feeding::next_event(rt.stdin(), to.errors, End::Device, &mut event);
         let Fed::Whole(_) = fed else {
-            ended(fed, events);
+            ended(to, fed, events);
             return;
         };
         if events::switches_on(event) {
@@ -34,12 +42,8 @@ fn main() {
         let lent = events::lent_by(event, ANSWER_ROOM, MOST_LINES, MOST_SHOWN);
         let next = tell(kept, &mut frame, &mut last, lent, &mut buf, &mut display);
         let shows = next.shows;
-        if !say(next.number, next.count, &buf) {
-            unwritten();
-            return;
-        }
-        if !show(shows, &display) {
-            unwritten();
+        if let Err(why) = told(to, next.number, next.count, &buf, shows, &display) {
+            unwritten(to, why);
             return;
         }
         let after = next.kept;
@@ -49,20 +53,20 @@ fn main() {
 }
 
 // Why there are no more events: at the end of the input nothing is said.
-fn ended(fed: Fed, events: u64) {
+fn ended(to: Outlets, fed: Fed, events: u64) {
     let Fed::Broken = fed else {
         return;
     };
-    io::write_all(STDERR_FILENO, b"error: after ");
-    io::print_decimal(STDERR_FILENO, events);
-    io::write_all(
-        STDERR_FILENO,
+    system::write(&to.errors, b"error: after ");
+    system::number(&to.errors, events);
+    system::write(
+        &to.errors,
         b" events comes one that is cut short or is none: 4Fh, or 42h and a byte, or 53h, 0 to 2, two bytes of length and a byte\n",
     );
 }
 
-fn unwritten() {
-    os::fail(b"error: standard output can't be written");
+fn unwritten(to: Outlets, why: Error) {
+    system::fail(&to.errors, b"error: standard output can't be written", &why);
 }
 
 // A byte with this much lent.
@@ -89,36 +93,52 @@ fn tell(
     )
 }
 
+// What an event gave back, and what is shown.
+fn told(
+    to: Outlets,
+    number: u64,
+    count: usize,
+    buf: &[u8],
+    shows: Display,
+    display: &[u8],
+) -> Result<()> {
+    say(to, number, count, buf)?;
+    show(to, shows, display)
+}
+
 // The reply number, the count, as many bytes.
-fn say(number: u64, count: usize, buf: &[u8]) -> bool {
+fn say(to: Outlets, number: u64, count: usize, buf: &[u8]) -> Result<()> {
     let head = [(number % 256) as u8, (count % 256) as u8];
-    if !io::write_all(STDOUT_FILENO, &head) {
-        return false;
-    }
+    to.output.write_all(&head)?;
     if buf.len() < count {
-        return false;
+        return Err(too_many());
     }
-    io::write_all(STDOUT_FILENO, &buf[0..count])
+    to.output.write_all(&buf[0..count])
 }
 
 // 00h, where no text is shown; else 01h, the number of its bytes, and the text.
-fn show(shows: Display, display: &[u8]) -> bool {
+fn show(to: Outlets, shows: Display, display: &[u8]) -> Result<()> {
     match shows {
         Display::Stays => {
             let none = [0u8];
-            io::write_all(STDOUT_FILENO, &none)
+            to.output.write_all(&none)
         }
-        Display::Shows(n) => show_text(basics::least_size(n, display.len()), display),
+        Display::Shows(n) => show_text(to, basics::least_size(n, display.len()), display),
     }
 }
 
-fn show_text(n: usize, display: &[u8]) -> bool {
+fn show_text(to: Outlets, n: usize, display: &[u8]) -> Result<()> {
     if display.len() < n {
-        return false;
+        return Err(too_many());
     }
     let head = [1u8, (n % 256) as u8];
-    if !io::write_all(STDOUT_FILENO, &head) {
-        return false;
-    }
-    io::write_all(STDOUT_FILENO, &display[0..n])
+    to.output.write_all(&head)?;
+    to.output.write_all(&display[0..n])
+}
+
+fn too_many() -> Error {
+    Error::new(
+        ErrorKind::InvalidData,
+        "more bytes are counted than there are",
+    )
 }

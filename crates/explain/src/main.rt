@@ -4,51 +4,65 @@
 
 mod recital;
 
-use libc::{STDERR_FILENO, STDIN_FILENO, STDOUT_FILENO};
+use recital::Recording;
+use std::env::Env;
+use std::fs::File;
+use std::io::{Result, Stdin};
+use std::rt::Files;
+use system::{NAME_ROOM, Outlets};
 use wishes::Wish;
 
-fn main() {
-    let wish = arguments();
+fn main(rt: HostRuntime) {
+    let to = Outlets {
+        output: rt.stdout(),
+        errors: rt.stderr(),
+    };
+    let wish = arguments(&rt);
     if !wish.fits {
-        io::write_all(
-            STDERR_FILENO,
+        system::write(
+            &to.errors,
             b"usage: explain [-html] [RECORDING]\nerror: these arguments are of no such form: name one recording, or give it on standard input\n",
         );
         return;
     }
-    let fd = opened(wish.recording);
-    if fd < 0 {
-        os::fail(
-            b"error: the recording can't be opened: name a file that is there and can be read",
-        );
-        return;
+    match opened(&rt, rt.stdin(), wish.recording) {
+        Ok(mut recording) => {
+            begin(to, wish.html);
+            recital::tell(to, &mut recording, wish.html);
+            end(to, wish.html);
+        }
+        Err(why) => {
+            system::fail(
+                &to.errors,
+                b"error: the recording can't be opened: name a file that is there and can be read",
+                &why,
+            );
+        }
     }
-    begin(wish.html);
-    recital::tell(fd, wish.html);
-    end(wish.html);
 }
 
-fn arguments() -> Wish {
-    let mut first = io::buffer();
-    let n = os::arg(1, &mut first);
-    wishes::wish_of(os::arg_count(), &first[..n])
+fn arguments(rt: &impl Env) -> Wish {
+    let mut first = [0u8; NAME_ROOM];
+    let n = system::arg(rt, 1, &mut first);
+    wishes::wish_of(system::arg_count(rt), &first[..n])
 }
 
-// The recording that an argument names, open for reading; without one standard input; below 0 where it can't be.
-fn opened(place: usize) -> i32 {
+// The recording that an argument names, open for reading; without one standard input.
+fn opened<R: Env + Files<File = File>>(rt: &R, input: Stdin, place: usize) -> Result<Recording> {
     if place == 0 {
-        return STDIN_FILENO;
+        return Ok(Recording::Input(input));
     }
-    let mut name = io::buffer();
-    let n = os::arg(place, &mut name);
-    os::open_read(&name[..n])
+    let mut name = [0u8; NAME_ROOM];
+    let n = system::arg(rt, place, &mut name);
+    let file = system::open_read(rt, &name[..n])?;
+    Ok(Recording::Named(file))
 }
 
 // What stands before and behind all frames of a page.
-fn begin(html: bool) {
+fn begin(to: Outlets, html: bool) {
     if html {
-        io::write_all(
-            STDOUT_FILENO,
+        system::write(
+            &to.output,
             b"<!DOCTYPE html>\n<html lang=\"en\"><head><meta charset=\"utf-8\"><title>A recording explained</title>\n<style>\n\
             body { font: 20px/1.45 sans-serif; max-width: 60em; margin: 1em auto; padding: 0 1em; color: #111; background: #fff }\n\
             section { border-left: .5em solid #1b6e3c; padding-left: .8em; margin: 1.4em 0 }\n\
@@ -66,8 +80,8 @@ fn begin(html: bool) {
     }
 }
 
-fn end(html: bool) {
+fn end(to: Outlets, html: bool) {
     if html {
-        io::write_all(STDOUT_FILENO, b"</body></html>\n");
+        system::write(&to.output, b"</body></html>\n");
     }
 }

@@ -1,8 +1,10 @@
 // A whole recording told, part by part and call by call.
 use display::MOST_SHOWN;
-use libc::STDOUT_FILENO;
 use reader::FRAME_ROOM;
 use sentences::front;
+use std::fs::File;
+use std::io::{Read, Stdin};
+use system::Outlets;
 use trail::Trail;
 use wire::ANSWER_ROOM;
 use witness::{Seen, see};
@@ -15,6 +17,13 @@ const TELLING_ROOM: usize = 16384;
 // As many bytes are read at once, if they are there.
 const PART_ROOM: usize = 4096;
 
+// A recording that is open for reading: standard input, or a file.
+#[derive(Drop)]
+pub(crate) enum Recording {
+    Input(Stdin),
+    Named(File),
+}
+
 // Bytes of a part that are not yet heard: from a place to the end of what was read.
 #[derive(Clone, Copy)]
 struct Span {
@@ -23,8 +32,8 @@ struct Span {
 }
 
 // The recording that is open for reading, from here to its end.
-pub(crate) fn tell(fd: i32, html: bool) {
-    let mut bytes = io::buffer();
+pub(crate) fn tell(to: Outlets, recording: &mut Recording, html: bool) {
+    let mut bytes = [0u8; PART_ROOM];
     let mut frame = [0u8; FRAME_ROOM];
     let mut last = [0u8; ANSWER_ROOM];
     let mut shadow = [0u8; FRAME_ROOM];
@@ -33,9 +42,9 @@ pub(crate) fn tell(fd: i32, html: bool) {
     let mut span = Span { from: 0, count: 0 };
     let mut turns = 9223372036854775807u64;
     while turns > 0 {
-        span = refill(fd, &mut bytes, span);
+        span = refill(to, recording, &mut bytes, span);
         if span.count == 0 {
-            tell_end(html, trail, &shadow);
+            tell_end(to, html, trail, &shadow);
             return;
         }
         let mut buf = [0u8; ANSWER_ROOM];
@@ -45,7 +54,7 @@ pub(crate) fn tell(fd: i32, html: bool) {
         let seen = see(kept, &mut frame, &mut last, &mut buf, &mut text, read, at);
         kept = seen.kept;
         let taken = taken_of(&bytes, span, seen.taken);
-        tell_call(html, trail, &shadow, taken, seen, &buf, &text);
+        tell_call(to, html, trail, &shadow, taken, seen, &buf, &text);
         trail = trail::follow(trail, &mut shadow, taken);
         span = behind(span, seen.taken);
         turns -= 1;
@@ -54,6 +63,7 @@ pub(crate) fn tell(fd: i32, html: bool) {
 
 // What is told of a call, written at once.
 fn tell_call(
+    to: Outlets,
     html: bool,
     trail: Trail,
     shadow: &[u8; FRAME_ROOM],
@@ -71,27 +81,41 @@ fn tell_call(
     let n = story::put_call(
         &mut text, 0, html, trail, shadow, taken, call, number, reason, given, shows, display,
     );
-    io::write_all(STDOUT_FILENO, front(&text, n));
+    system::write(&to.output, front(&text, n));
 }
 
-fn tell_end(html: bool, trail: Trail, shadow: &[u8; FRAME_ROOM]) {
+fn tell_end(to: Outlets, html: bool, trail: Trail, shadow: &[u8; FRAME_ROOM]) {
     let mut text = [0u8; TELLING_ROOM];
     let n = story::put_ends(&mut text, 0, html, trail, shadow);
-    io::write_all(STDOUT_FILENO, front(&text, n));
+    system::write(&to.output, front(&text, n));
 }
 
 // The bytes that are not yet heard; where there are none, as much of the recording as is there: nothing at its end, or where it can't be read.
-fn refill(fd: i32, bytes: &mut [u8; PART_ROOM], span: Span) -> Span {
+fn refill(to: Outlets, recording: &mut Recording, bytes: &mut [u8; PART_ROOM], span: Span) -> Span {
     if span.from < span.count {
         return span;
     }
-    let got = libc::read(fd, bytes);
-    if got < 0 {
-        os::fail(b"error: the recording can't be read: what is told ends before it does");
-    }
     Span {
         from: 0,
-        count: io::count(got, bytes),
+        count: read(to, recording, bytes),
+    }
+}
+
+fn read(to: Outlets, recording: &mut Recording, bytes: &mut [u8; PART_ROOM]) -> usize {
+    let got = match recording {
+        Recording::Input(input) => input.read(bytes),
+        Recording::Named(file) => file.read(bytes),
+    };
+    match got {
+        Ok(n) => n,
+        Err(why) => {
+            system::fail(
+                &to.errors,
+                b"error: the recording can't be read: what is told ends before it does",
+                &why,
+            );
+            0
+        }
     }
 }
 

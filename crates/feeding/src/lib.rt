@@ -6,7 +6,7 @@ ghost use Rattle.std.specs.Prelude.{◌<◌, ◌≤◌, length};
 ghost use Rattle.feeding.specs.Feeding.{Event};
 
 use events::End;
-use libc::STDIN_FILENO;
+use std::io::{Error, Read, Stderr, Stdin};
 
 // What was read: an event of so many bytes; the input's end, or what can't be read; what is cut short or none, or too long for the buffer.
 #[derive(Clone, Copy)]
@@ -17,13 +17,13 @@ pub enum Fed {
 }
 
 // The next event, at the front of the buffer.
-pub fn next_event(end: End, event: &mut [u8]) -> Fed
+pub fn next_event(input: Stdin, errors: Stderr, end: End, event: &mut [u8]) -> Fed
     ensures { Event end event.new result }
 {
     if event.len() < 1 {
         return Fed::Broken;
     }
-    if !begun(event) {
+    if !begun(input, errors, event) {
         return Fed::Ended;
     }
     let mut n = 1;
@@ -38,7 +38,7 @@ pub fn next_event(end: End, event: &mut [u8]) -> Fed
         if event.len() < whole {
             return Fed::Broken;
         }
-        if !more(event, n, whole) {
+        if !more(input, event, n, whole) {
             return Fed::Broken;
         }
         n = whole;
@@ -47,24 +47,26 @@ pub fn next_event(end: End, event: &mut [u8]) -> Fed
 }
 
 // The first byte of an event, where one comes.
-fn begun(event: &mut [u8]) -> bool
+fn begun(mut input: Stdin, errors: Stderr, event: &mut [u8]) -> bool
     requires { 0 < length event.old }
 {
-    let got = libc::read(STDIN_FILENO, &mut event[0..1]);
-    if got < 0 {
-        unread();
+    match input.read(&mut event[0..1]) {
+        Ok(got) => 0 < got,
+        Err(why) => {
+            unread(errors, why);
+            false
+        }
     }
-    0 < got
 }
 
-fn unread() {
-    os::fail(b"error: standard input can't be read");
+fn unread(errors: Stderr, why: Error) {
+    system::fail(&errors, b"error: standard input can't be read", &why);
 }
 
 // The bytes of an event behind the first, where all of them come.
-fn more(event: &mut [u8], from: usize, end: usize) -> bool
+fn more(mut input: Stdin, event: &mut [u8], from: usize, end: usize) -> bool
     requires from_le_end { from ≤ end }
     requires end_in_bounds { end ≤ length event.old }
 {
-    io::read_full(STDIN_FILENO, &mut event[from..end]) == end - from
+    input.read_exact(&mut event[from..end]).is_ok()
 }

@@ -1,10 +1,11 @@
 // What each of a list of commands is read as. A record is the command's number, the number of its data bytes, and the data.
 #![tactic(auto)]
 
-ghost use Rattle.io.specs.Counts.{IsPrefixLen};
+ghost use Rattle.std.specs.Prelude.{◌≤◌, length};
 
 use kinds::{Adjust, Command, Mode, Parsed, Password, Payment, Sale, Service, Tender};
-use libc::{STDERR_FILENO, STDIN_FILENO, STDOUT_FILENO};
+use std::io::{Read, Stderr, Stdin};
+use system::Outlets;
 
 // The words that are written, each with a space before it. A word is a value and no string: strings of several branches are dear to prove.
 const OPEN_TEXT: [u8; 13] = *b" open text   ";
@@ -83,30 +84,51 @@ const IN: [u8; 13] = *b" in          ";
 
 const OUT: [u8; 13] = *b" out         ";
 
-fn main() {
-    let mut buf = io::large_buffer();
-    let n = all(&mut buf);
-    if records(&buf[..n]) < n {
-        io::write_all(STDERR_FILENO, b"error: the last record is cut short\n");
+// As much of the input as is looked at.
+const INPUT_ROOM: usize = 65536;
+
+fn main(rt: HostRuntime) {
+    let to = Outlets {
+        output: rt.stdout(),
+        errors: rt.stderr(),
+    };
+    let mut buf = [0u8; INPUT_ROOM];
+    let n = all(rt.stdin(), to.errors, &mut buf);
+    if records(to, &buf[..n]) < n {
+        system::write(&to.errors, b"error: the last record is cut short\n");
     }
 }
 
 // The whole input, as far as the buffer reaches.
-fn all(buf: &mut [u8]) -> usize
-    ensures { IsPrefixLen result buf.new }
+fn all(mut input: Stdin, errors: Stderr, buf: &mut [u8]) -> usize
+    ensures { result ≤ length buf.new }
 {
-    let n = io::read_full(STDIN_FILENO, buf);
-    if n == 0 {
-        os::fail(b"error: standard input has no record");
+    let mut done = 0;
+    while done < buf.len() {
+        match input.read(&mut buf[done..]) {
+            Ok(0) => {
+                if done == 0 {
+                    system::write(&errors, b"error: standard input has no record: Success\n");
+                }
+                return done;
+            }
+            Ok(n) => done += n,
+            Err(why) => {
+                if done == 0 {
+                    system::fail(&errors, b"error: standard input has no record", &why);
+                }
+                return done;
+            }
+        }
     }
-    n
+    done
 }
 
 // How many bytes the whole records have.
-fn records(s: &[u8]) -> usize {
+fn records(to: Outlets, s: &[u8]) -> usize {
     let mut i = 0;
     while i < s.len() {
-        let used = record(&s[i..]);
+        let used = record(to, &s[i..]);
         if used == 0 {
             return i;
         }
@@ -119,7 +141,7 @@ fn records(s: &[u8]) -> usize {
 }
 
 // The length of the first record, or 0 where it is cut off.
-fn record(s: &[u8]) -> usize {
+fn record(to: Outlets, s: &[u8]) -> usize {
     if s.len() < 2 {
         return 0;
     }
@@ -130,7 +152,7 @@ fn record(s: &[u8]) -> usize {
     }
     let end = n + 2;
     let read = command::parse(code, &s[2..end]);
-    say(code, read);
+    say(to, code, read);
     end
 }
 
@@ -138,154 +160,154 @@ fn wide(b: u8) -> usize {
     b as usize
 }
 
-fn say(code: u8, read: Parsed) {
-    io::print_decimal(STDOUT_FILENO, code as u64);
-    outcome(read);
-    put(b"\n");
+fn say(to: Outlets, code: u8, read: Parsed) {
+    system::number(&to.output, code as u64);
+    outcome(to, read);
+    put(to, b"\n");
 }
 
-fn outcome(read: Parsed) {
+fn outcome(to: Outlets, read: Parsed) {
     match read {
-        Parsed::Read(c) => kind(c),
-        Parsed::Syntax => number(1),
-        Parsed::Unknown => number(2),
+        Parsed::Read(c) => kind(to, c),
+        Parsed::Syntax => number(to, 1),
+        Parsed::Unknown => number(to, 2),
     }
 }
 
-fn kind(c: Command) {
+fn kind(to: Outlets, c: Command) {
     match c {
-        Command::OpenText => word(OPEN_TEXT),
-        Command::CloseText => word(CLOSE_TEXT),
-        Command::PrintText => word(TEXT),
-        Command::Open { op, password, till } => open(op, password, till),
-        Command::Sell(sale) => sell(sale),
+        Command::OpenText => word(to, OPEN_TEXT),
+        Command::CloseText => word(to, CLOSE_TEXT),
+        Command::PrintText => word(to, TEXT),
+        Command::Open { op, password, till } => open(to, op, password, till),
+        Command::Sell(sale) => sell(to, sale),
         Command::Subtotal {
             print,
             show,
             adjust,
-        } => subtotal(print, show, adjust),
-        Command::Pay(payment) => pay(payment),
-        Command::Close => word(CLOSE),
-        Command::Cancel => word(CANCEL),
-        Command::Sums { taxes } => either(taxes, TAXES, SUMS),
-        Command::Closing { clears } => either(clears, CLOSE_DAY, REPORT),
-        Command::Drawer(service) => drawer(service),
-        Command::Status => word(STATUS),
-        Command::Rates => word(RATES),
-        Command::ShowText => word(SHOW_TEXT),
-        Command::ChangePassword { op, old, new } => change_password(op, old, new),
-        Command::ChangeName { op, password } => change_name(op, password),
+        } => subtotal(to, print, show, adjust),
+        Command::Pay(payment) => pay(to, payment),
+        Command::Close => word(to, CLOSE),
+        Command::Cancel => word(to, CANCEL),
+        Command::Sums { taxes } => either(to, taxes, TAXES, SUMS),
+        Command::Closing { clears } => either(to, clears, CLOSE_DAY, REPORT),
+        Command::Drawer(service) => drawer(to, service),
+        Command::Status => word(to, STATUS),
+        Command::Rates => word(to, RATES),
+        Command::ShowText => word(to, SHOW_TEXT),
+        Command::ChangePassword { op, old, new } => change_password(to, op, old, new),
+        Command::ChangeName { op, password } => change_name(to, op, password),
     }
 }
 
-fn subtotal(print: bool, show: bool, by: Adjust) {
-    field(SUBTOTAL, print as u64);
-    number(show as u64);
-    adjust(by);
+fn subtotal(to: Outlets, print: bool, show: bool, by: Adjust) {
+    field(to, SUBTOTAL, print as u64);
+    number(to, show as u64);
+    adjust(to, by);
 }
 
-fn open(op: u64, password: Password, till: u64) {
-    field(OPEN, op);
-    secret(PASSWORD, password);
-    field(TILL, till);
+fn open(to: Outlets, op: u64, password: Password, till: u64) {
+    field(to, OPEN, op);
+    secret(to, PASSWORD, password);
+    field(to, TILL, till);
 }
 
-fn change_password(op: u64, old: Password, new: Password) {
-    field(CHANGE_PASSWORD, op);
-    secret(PASSWORD, old);
-    secret(NEW, new);
+fn change_password(to: Outlets, op: u64, old: Password, new: Password) {
+    field(to, CHANGE_PASSWORD, op);
+    secret(to, PASSWORD, old);
+    secret(to, NEW, new);
 }
 
-fn change_name(op: u64, password: Password) {
-    field(CHANGE_NAME, op);
-    secret(PASSWORD, password);
+fn change_name(to: Outlets, op: u64, password: Password) {
+    field(to, CHANGE_NAME, op);
+    secret(to, PASSWORD, password);
 }
 
 // How many digits, and their value.
-fn secret(name: [u8; 13], password: Password) {
+fn secret(to: Outlets, name: [u8; 13], password: Password) {
     let digits = password.digits;
     let value = password.value;
-    field(name, digits as u64);
-    number(value);
+    field(to, name, digits as u64);
+    number(to, value);
 }
 
-fn sell(sale: Sale) {
+fn sell(to: Outlets, sale: Sale) {
     let group = sale.group;
     let minus = sale.minus;
     let price = sale.price;
     let quantity = sale.quantity;
     let by = sale.adjust;
-    field(SELL, group);
-    field(MINUS, minus as u64);
-    field(PRICE, price);
-    field(QUANTITY, quantity);
-    adjust(by);
+    field(to, SELL, group);
+    field(to, MINUS, minus as u64);
+    field(to, PRICE, price);
+    field(to, QUANTITY, quantity);
+    adjust(to, by);
 }
 
-fn adjust(by: Adjust) {
+fn adjust(to: Outlets, by: Adjust) {
     match by {
-        Adjust::Nothing => word(NOTHING),
-        Adjust::PercentMore(n) => field(PERCENT_MORE, n),
-        Adjust::PercentLess(n) => field(PERCENT_LESS, n),
-        Adjust::AmountMore(n) => field(AMOUNT_MORE, n),
-        Adjust::AmountLess(n) => field(AMOUNT_LESS, n),
+        Adjust::Nothing => word(to, NOTHING),
+        Adjust::PercentMore(n) => field(to, PERCENT_MORE, n),
+        Adjust::PercentLess(n) => field(to, PERCENT_LESS, n),
+        Adjust::AmountMore(n) => field(to, AMOUNT_MORE, n),
+        Adjust::AmountLess(n) => field(to, AMOUNT_LESS, n),
     }
 }
 
-fn pay(payment: Payment) {
+fn pay(to: Outlets, payment: Payment) {
     let by = payment.mode;
     let given = payment.tender;
-    word(PAY);
-    mode(by);
-    tender(given);
+    word(to, PAY);
+    mode(to, by);
+    tender(to, given);
 }
 
-fn mode(by: Mode) {
+fn mode(to: Outlets, by: Mode) {
     match by {
-        Mode::Cash => word(CASH),
-        Mode::N => word(N),
-        Mode::C => word(C),
-        Mode::D => word(D),
-        Mode::B => word(B),
+        Mode::Cash => word(to, CASH),
+        Mode::N => word(to, N),
+        Mode::C => word(to, C),
+        Mode::D => word(to, D),
+        Mode::B => word(to, B),
     }
 }
 
-fn tender(given: Tender) {
+fn tender(to: Outlets, given: Tender) {
     match given {
-        Tender::Rest => word(REST),
-        Tender::Amount(n) => field(AMOUNT, n),
+        Tender::Rest => word(to, REST),
+        Tender::Amount(n) => field(to, AMOUNT, n),
     }
 }
 
-fn drawer(service: Service) {
+fn drawer(to: Outlets, service: Service) {
     match service {
-        Service::Report => word(REPORT),
-        Service::In(n) => field(IN, n),
-        Service::Out(n) => field(OUT, n),
+        Service::Report => word(to, REPORT),
+        Service::In(n) => field(to, IN, n),
+        Service::Out(n) => field(to, OUT, n),
     }
 }
 
-fn either(b: bool, yes: [u8; 13], no: [u8; 13]) {
+fn either(to: Outlets, b: bool, yes: [u8; 13], no: [u8; 13]) {
     if b {
-        word(yes);
+        word(to, yes);
         return;
     }
-    word(no);
+    word(to, no);
 }
 
-fn field(name: [u8; 13], n: u64) {
-    word(name);
-    number(n);
+fn field(to: Outlets, name: [u8; 13], n: u64) {
+    word(to, name);
+    number(to, n);
 }
 
 // A space and the number.
-fn number(n: u64) {
-    put(b" ");
-    io::print_decimal(STDOUT_FILENO, n);
+fn number(to: Outlets, n: u64) {
+    put(to, b" ");
+    system::number(&to.output, n);
 }
 
 // The word without the spaces behind it.
-fn word(s: [u8; 13]) {
+fn word(to: Outlets, s: [u8; 13]) {
     let mut n = 13;
     while 0 < n {
         let last = n - 1;
@@ -294,11 +316,9 @@ fn word(s: [u8; 13]) {
         }
         n = last;
     }
-    put(&s[0..n]);
+    put(to, &s[0..n]);
 }
 
-fn put(s: &[u8]) {
-    if !io::write_all(STDOUT_FILENO, s) {
-        os::fail(b"error: standard output can't be written");
-    }
+fn put(to: Outlets, s: &[u8]) {
+    system::put(to, s);
 }

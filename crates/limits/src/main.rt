@@ -3,21 +3,25 @@
 
 use display::MOST_SHOWN;
 use kept::{Kept, Next};
-use libc::STDOUT_FILENO;
 use reader::FRAME_ROOM;
+use system::Outlets;
 use wire::{ANSWER_ROOM, Built, COMMAND_ROOM};
 
-fn main() {
-    word(b"999999.99: ");
-    fill(b"\tB999999.99");
-    word(b"0.01: ");
-    fill(b"\tB0.01");
-    sends(200);
-    sends(201);
+fn main(rt: HostRuntime) {
+    let to = Outlets {
+        output: rt.stdout(),
+        errors: rt.stderr(),
+    };
+    word(to, b"999999.99: ");
+    fill(to, b"\tB999999.99");
+    word(to, b"0.01: ");
+    fill(to, b"\tB0.01");
+    sends(to, 200);
+    sends(to, 201);
 }
 
 // Lines of this sale on one receipt of a fresh device, until one is refused.
-fn fill(sale: &[u8]) {
+fn fill(to: Outlets, sale: &[u8]) {
     let mut frame = [0u8; FRAME_ROOM];
     let mut last = [0u8; ANSWER_ROOM];
     let mut sent = send(
@@ -34,18 +38,18 @@ fn fill(sale: &[u8]) {
         sent = send(kept, &mut frame, &mut last, seq(taken), 49, sale);
         let number = sent.number;
         if number != 0 {
-            tell(taken, number);
+            tell(to, taken, number);
             return;
         }
         taken += 1;
     }
 }
 
-fn tell(taken: u64, number: u64) {
-    io::print_decimal(STDOUT_FILENO, taken);
-    word(b" lines taken, one more: ");
-    io::print_decimal(STDOUT_FILENO, number);
-    word(b"\n");
+fn tell(to: Outlets, taken: u64, number: u64) {
+    system::number(&to.output, taken);
+    word(to, b" lines taken, one more: ");
+    system::number(&to.output, number);
+    word(to, b"\n");
 }
 
 // Neighbours have different ones.
@@ -74,18 +78,18 @@ fn send(
 }
 
 // Command 42 with n data bytes.
-fn sends(n: usize) {
+fn sends(to: Outlets, n: usize) {
     let letters = [b'x'; COMMAND_ROOM];
     if COMMAND_ROOM < n {
         return;
     }
     let mut sent = [0u8; COMMAND_ROOM];
     let built = wire::build::build_command(&mut sent, 0x20, 42, &letters[0..n]);
-    word(b"data of ");
-    io::print_decimal(STDOUT_FILENO, n as u64);
-    word(b" bytes: ");
-    io::print_decimal(STDOUT_FILENO, reply(built));
-    word(b"\n");
+    word(to, b"data of ");
+    system::number(&to.output, n as u64);
+    word(to, b" bytes: ");
+    system::number(&to.output, reply(built));
+    word(to, b"\n");
 }
 
 fn size_of(built: Built) -> usize {
@@ -104,8 +108,6 @@ fn reply(built: Built) -> u64 {
     }
 }
 
-fn word(s: &[u8]) {
-    if !io::write_all(STDOUT_FILENO, s) {
-        os::fail(b"error: standard output can't be written");
-    }
+fn word(to: Outlets, s: &[u8]) {
+    system::put(to, s);
 }

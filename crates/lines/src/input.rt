@@ -2,9 +2,9 @@
 ghost use Rattle.lines.specs.Lines.{LineRead, ActRead};
 
 use crate::{LINE_ROOM, gather};
-use libc::STDIN_FILENO;
 use script::Act;
 use sentences::front;
+use std::io::{Error, Read, Stderr, Stdin};
 
 // SCRIPTS 6: the number of a line that is too long.
 const TOO_LONG: u8 = 3;
@@ -25,10 +25,10 @@ pub struct Next {
 }
 
 // The next line goes to the front of `line`, the data of its command to that of `content`.
-pub fn next_act(line: &mut [u8], content: &mut [u8]) -> Next
+pub fn next_act(input: Stdin, errors: Stderr, line: &mut [u8], content: &mut [u8]) -> Next
     ensures { ActRead line.old line.new content.old content.new result }
 {
-    let typed = next_line(line);
+    let typed = next_line(input, errors, line);
     let mut act = Act::Wrong(TOO_LONG);
     if typed.count <= LINE_ROOM {
         act = script::read_line(front(line, typed.count), content);
@@ -40,20 +40,29 @@ pub fn next_act(line: &mut [u8], content: &mut [u8]) -> Next
     }
 }
 
-// Of a line that is too long no more than one byte too many is read.
-fn next_line(line: &mut [u8]) -> Typed
+// Of a line that is too long no more than one byte too many is read. What stands before the end of the input is a line too.
+fn next_line(mut input: Stdin, errors: Stderr, line: &mut [u8]) -> Typed
     ensures { LineRead line.old line.new result }
 {
     let mut count: usize = 0;
     let mut left = LINE_ROOM + 1;
     while 0 < left {
         let mut byte = [0u8; 1];
-        let got = libc::read(STDIN_FILENO, &mut byte);
-        if got < 1 {
-            return Typed {
-                count,
-                there: ended(got, count),
-            };
+        match input.read(&mut byte) {
+            Ok(0) => {
+                return Typed {
+                    count,
+                    there: 0 < count,
+                };
+            }
+            Ok(_) => {}
+            Err(why) => {
+                unread(errors, why);
+                return Typed {
+                    count,
+                    there: false,
+                };
+            }
         }
         let gathered = gather(line, count, &byte);
         count = gathered.count;
@@ -65,11 +74,6 @@ fn next_line(line: &mut [u8]) -> Typed
     Typed { count, there: true }
 }
 
-// The end of the input: what stands before it is a line too.
-fn ended(got: isize, count: usize) -> bool {
-    if got < 0 {
-        os::fail(b"error: standard input can't be read");
-        return false;
-    }
-    0 < count
+fn unread(errors: Stderr, why: Error) {
+    system::fail(&errors, b"error: standard input can't be read", &why);
 }

@@ -1,9 +1,5 @@
 -- The arguments, told one by one.
-use mathlib.Core.Path.{◌≡◌, refl, sym, ap, ◌∙◌}
-use mathlib.Core.List.{List, [], ◌∷◌, ◌++◌}
-use Prim.Native.Nat.{ℕ, ◌+◌}
-use native.Mathlib.Omega.{arith}
-use lib.ListN.{length, length-append}
+use Rattle.std.proofs.Common.{ℕ, ◌+◌, ◌≡◌, refl, sym, ap, ◌∙◌, List, [], ◌∷◌, ◌++◌, length, length-append, arith}
 use Rattle.options.specs.Options.{none_asked, asked_with, asked_of, asked_from}
 use Rattle.options.specs.declared.Argument.{Argument}
 use Rattle.options.specs.declared.Asked.{Asked}

@@ -3,105 +3,174 @@
 #![tactic(auto)]
 
 ghost use Rattle.std.specs.Prelude.{◌≤◌, length};
+ghost use Rattle.std.specs.Io.{ReadsAtMost};
 ghost use Rattle.options.specs.Ends.{names_left};
 ghost use Rattle.passing.specs.Passing.{PartRead, Answered};
 
 use keeping::{Next, Source, Stage};
-use libc::{SEEK_END, STDERR_FILENO};
+use opening::{Held, INPUT, OUTPUT};
 use options::Ends;
+use std::io::{Error, IsTerminal, Read, Result, Seek, SeekFrom, Stderr, Write};
 
 // The next part, in the first bytes; over where there is none, and then a message says why.
-pub fn read_part(ends: Ends, stage: Stage, bytes: &mut [u8]) -> Stage
+pub fn read_part(held: &Held, ends: Ends, stage: Stage, bytes: &mut [u8]) -> Stage
     ensures part_read { PartRead stage.replays ends.online (names_left ends) stage.heard (length bytes.new) result }
     ensures count_in_bounds { result.count ≤ length bytes.new }
 {
     let source = keeping::source_of(stage.replays, ends.online);
     let left = options::names_left(ends);
-    let fd = descriptor(ends, stage);
-    let got = libc::read(fd, bytes);
-    let n = io::count(got, &*bytes);
-    let next = keeping::taken_for(source, is_failed(got), is_terminal(fd, got), left, n);
-    let kept = act(ends, source, next, stage.heard, &bytes[0..n]);
+    let number = number_of(ends, stage);
+    let got = read(held, number, bytes);
+    let n = count(got, bytes);
+    let failed = got.is_err();
+    let terminal = is_terminal(held, number, got);
+    let next = keeping::taken_for(source, failed, terminal, left, n);
+    told(held.errors, source, got);
+    let kept = act(held, ends, next, stage.heard, &bytes[0..n]);
     keeping::stage_after(next, stage.heard, n, kept)
 }
 
-fn descriptor(ends: Ends, stage: Stage) -> i32 {
+fn number_of(ends: Ends, stage: Stage) -> i32 {
     if stage.replays {
         return ends.old;
     }
     ends.input
 }
 
-fn is_failed(got: isize) -> bool {
-    got < 0
-}
-
-// Asked only where no byte came, so that the reason of a read that failed stays.
-fn is_terminal(fd: i32, got: isize) -> bool {
-    if got != 0 {
-        return false;
+// What is there is read, once.
+fn read(held: &Held, number: i32, bytes: &mut [u8]) -> Result<usize>
+    ensures { ReadsAtMost result bytes.new }
+{
+    if number == INPUT {
+        let mut input = held.input;
+        return input.read(bytes);
     }
-    libc::isatty(fd) == 1
+    match opening::file_at(held, number) {
+        Ok(mut file) => file.read(bytes),
+        Err(why) => Err(why),
+    }
 }
 
-// What a read is taken for is done: bytes of the line are kept, a long replay says how far it is, an end says why. Whether bytes that have to
+// How many bytes were read: none where that failed.
+fn count(got: Result<usize>, bytes: &[u8]) -> usize
+    requires { ReadsAtMost got bytes.now }
+    ensures { result ≤ length bytes.now }
+{
+    match got {
+        Ok(n) => n,
+        Err(_) => 0,
+    }
+}
+
+// Asked only where no byte came.
+fn is_terminal(held: &Held, number: i32, got: Result<usize>) -> bool {
+    let Ok(0) = got else {
+        return false;
+    };
+    if number == INPUT {
+        return held.input.is_terminal();
+    }
+    match opening::file_at(held, number) {
+        Ok(file) => file.is_terminal(),
+        Err(_) => false,
+    }
+}
+
+// A read that failed says why.
+fn told(errors: Stderr, source: Source, got: Result<usize>) {
+    if let Err(why) = got {
+        broken(errors, source, why);
+    }
+}
+
+fn broken(errors: Stderr, source: Source, why: Error) {
+    match source {
+        Source::Recording => {
+            system::fail(&errors, b"error: the recording can't be read", &why);
+        }
+        Source::Input => {
+            system::fail(&errors, b"error: standard input can't be read", &why);
+        }
+        Source::Line => {
+            system::fail(&errors, b"error: the line can't be read", &why);
+        }
+    }
+}
+
+// What a read is taken for is done: bytes of the line are kept, a long replay says how far it is, a closed line is told. Whether bytes that have to
 // be kept are.
-fn act(ends: Ends, source: Source, next: Next, heard: u64, bytes: &[u8]) -> bool {
+fn act(held: &Held, ends: Ends, next: Next, heard: u64, bytes: &[u8]) -> bool {
     match next {
-        Next::Silent => replayed(ends, heard, bytes.len()),
+        Next::Silent => replayed(held, ends, heard, bytes.len()),
         Next::Anew => true,
         Next::Begin => true,
-        Next::Answer => keep(ends.tape, bytes),
+        Next::Answer => keep(held, ends.tape, bytes),
         Next::Wait => true,
         Next::End => true,
-        Next::Closed => io::write_all(STDERR_FILENO, b"error: the line is closed\n"),
-        Next::Broken => broken(source),
+        Next::Closed => system::write(&held.errors, b"error: the line is closed\n"),
+        Next::Broken => false,
     }
 }
 
 // Bytes of the recording: a long one says how far it is.
-fn replayed(ends: Ends, before: u64, n: usize) -> bool {
+fn replayed(held: &Held, ends: Ends, before: u64, n: usize) -> bool {
     let heard = keeping::grown(before, n);
     if keeping::reports(before, heard) {
-        report(ends, heard);
+        report(held, ends, heard);
     }
     true
 }
 
 // Of the last one also how long it is: its end is looked for where nothing is read.
-fn report(ends: Ends, heard: u64) {
-    io::print_decimal(STDERR_FILENO, heard);
+fn report(held: &Held, ends: Ends, heard: u64) {
+    system::number(&held.errors, heard);
     if !options::names_left(ends) {
-        let size = keeping::size_of(libc::lseek(ends.tape, 0, SEEK_END));
-        io::write_all(STDERR_FILENO, b" of ");
-        io::print_decimal(STDERR_FILENO, size);
+        let size = keeping::size_of(end_of(held, ends.tape));
+        system::write(&held.errors, b" of ");
+        system::number(&held.errors, size);
     }
-    io::write_all(STDERR_FILENO, b" bytes of the recording are heard\n");
+    system::write(&held.errors, b" bytes of the recording are heard\n");
+}
+
+// The place of a file's end, -1 where that can't be told.
+fn end_of(held: &Held, number: i32) -> i64 {
+    match sought(held, number) {
+        Ok(end) => i64::try_from(end).unwrap_or(-1),
+        Err(_) => -1,
+    }
+}
+
+fn sought(held: &Held, number: i32) -> Result<u64> {
+    let mut file = opening::file_at(held, number)?;
+    file.seek(SeekFrom::End(0))
 }
 
 // Bytes of the line go into the recording before they are heard.
-fn keep(tape: i32, bytes: &[u8]) -> bool {
+fn keep(held: &Held, tape: i32, bytes: &[u8]) -> bool {
     if tape < 0 {
         return true;
     }
-    let kept = io::write_all(tape, bytes);
-    if !kept {
-        os::fail(b"error: the recording can't be written");
+    match written(held, tape, bytes) {
+        Ok(()) => true,
+        Err(why) => {
+            system::fail(&held.errors, b"error: the recording can't be written", &why);
+            false
+        }
     }
-    kept
 }
 
-fn broken(source: Source) -> bool {
-    match source {
-        Source::Recording => os::fail(b"error: the recording can't be read"),
-        Source::Input => os::fail(b"error: standard input can't be read"),
-        Source::Line => os::fail(b"error: the line can't be read"),
+// All of the bytes, at once.
+fn written(held: &Held, number: i32, bytes: &[u8]) -> Result<()> {
+    if number == OUTPUT {
+        let mut output = held.output;
+        return Write::write_all(&mut output, bytes);
     }
-    false
+    let mut file = opening::file_at(held, number)?;
+    file.write_all(bytes)
 }
 
 // What is given back goes out once all that was heard is safe.
-pub fn answer(ends: Ends, stage: Stage, out: &[u8], given: usize) -> bool
+pub fn answer(held: &Held, ends: Ends, stage: Stage, out: &[u8], given: usize) -> bool
     ensures { Answered stage.replays given (length out.now) result }
 {
     if !keeping::goes_out(stage.replays, given) {
@@ -110,41 +179,54 @@ pub fn answer(ends: Ends, stage: Stage, out: &[u8], given: usize) -> bool
     if out.len() < given {
         return false;
     }
-    let safe = is_safe(ends.tape, stage.heard);
+    let safe = is_safe(held, ends.tape, stage.heard);
     if !safe {
         return false;
     }
-    write(ends, &out[0..given])
+    write(held, ends, &out[0..given])
 }
 
 // On its device, and with nothing else in it.
-fn is_safe(tape: i32, heard: u64) -> bool {
+fn is_safe(held: &Held, tape: i32, heard: u64) -> bool {
     if tape < 0 {
         return true;
     }
-    if libc::fsync(tape) != 0 {
-        os::fail(b"error: the recording can't be made safe");
+    if let Err(why) = synced(held, tape) {
+        system::fail(
+            &held.errors,
+            b"error: the recording can't be made safe",
+            &why,
+        );
         return false;
     }
-    let whole = keeping::is_whole(libc::lseek(tape, 0, SEEK_END), heard);
+    let whole = keeping::is_whole(end_of(held, tape), heard);
     if !whole {
-        io::write_all(
-            STDERR_FILENO,
+        system::write(
+            &held.errors,
             b"error: the recording was changed by another hand\n",
         );
     }
     whole
 }
 
-fn write(ends: Ends, given: &[u8]) -> bool {
-    let written = io::write_all(ends.output, given);
-    if written {
-        return true;
+fn synced(held: &Held, number: i32) -> Result<()> {
+    opening::file_at(held, number)?.sync_all()
+}
+
+fn write(held: &Held, ends: Ends, given: &[u8]) -> bool {
+    match written(held, ends.output, given) {
+        Ok(()) => true,
+        Err(why) => {
+            unwritten(held.errors, ends.online, why);
+            false
+        }
     }
-    if ends.online {
-        os::fail(b"error: the line can't be written");
-        return false;
+}
+
+fn unwritten(errors: Stderr, online: bool, why: Error) {
+    if online {
+        system::fail(&errors, b"error: the line can't be written", &why);
+        return;
     }
-    os::fail(b"error: standard output can't be written");
-    false
+    system::fail(&errors, b"error: standard output can't be written", &why);
 }

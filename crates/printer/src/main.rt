@@ -6,9 +6,13 @@ ghost use Rattle.std.specs.Prelude.{◌≡◌, length};
 
 use display::MOST_SHOWN;
 use kept::Kept;
+use opening::Held;
 use options::Ends;
 use reader::FRAME_ROOM;
 use recorder::Part;
+use std::env::Env;
+use std::fs::File;
+use std::rt::Files;
 use wire::ANSWER_ROOM;
 
 // As many bytes are read at once, if they are there.
@@ -17,16 +21,17 @@ const PART_ROOM: usize = 16384;
 // All that they can make the device give back: 217 bytes for each of them.
 const OUT_ROOM: usize = 3555328;
 
-fn main() {
-    let ends = opening::open_ends();
+fn main(rt: HostRuntime) {
+    let mut held = opening::none_held(rt.stdin(), rt.stdout(), rt.stderr());
+    let ends = opening::open_ends(&rt, &mut held);
     if ends.ready {
-        run(ends);
+        run(&rt, &mut held, ends);
     }
 }
 
 // Part by part: read, and kept where it came from the line; heard; answered. Behind a recording that another follows the device is switched on
 // anew.
-fn run(first: Ends) {
+fn run<R: Env + Files<File = File>>(rt: &R, held: &mut Held, first: Ends) {
     let mut ends = first;
     let mut frame = [0u8; FRAME_ROOM];
     let mut last = [0u8; ANSWER_ROOM];
@@ -36,14 +41,14 @@ fn run(first: Ends) {
     let mut stage = keeping::first_stage(ends.replays);
     let mut turns = 9223372036854775807u64;
     while turns > 0 {
-        stage = passing::read_part(ends, stage, &mut bytes);
+        stage = passing::read_part(&*held, ends, stage, &mut bytes);
         if stage.over {
             return;
         }
         if stage.anew {
             let switched = kept::switch_on(kept);
             kept = switched;
-            let following = opening::next_recording(ends);
+            let following = opening::next_recording(rt, held, ends);
             ends = following;
             if !ends.ready {
                 return;
@@ -53,7 +58,7 @@ fn run(first: Ends) {
         let part = hear(kept, &mut frame, &mut last, &bytes[0..n], &mut out);
         let next = part.kept;
         kept = next;
-        if !passing::answer(ends, stage, &out, part.given) {
+        if !passing::answer(&*held, ends, stage, &out, part.given) {
             return;
         }
         turns -= 1;

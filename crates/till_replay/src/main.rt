@@ -5,12 +5,17 @@ ghost use Rattle.std.specs.Prelude.{◌≡◌, ◌<◌, length};
 
 use events::{End, TILL_ROOM};
 use feeding::Fed;
-use libc::{STDERR_FILENO, STDOUT_FILENO};
 use reader::FRAME_ROOM;
+use std::io::{Error, Result};
+use system::Outlets;
 use till::{Said, Till, Word};
 
 // Events are read one by one to the end of the input.
-fn main() {
+fn main(rt: HostRuntime) {
+    let to = Outlets {
+        output: rt.stdout(),
+        errors: rt.stderr(),
+    };
     let mut frame = [0u8; FRAME_ROOM];
     let mut answer = [0u8; FRAME_ROOM];
     let mut event = [0u8; TILL_ROOM];
@@ -18,15 +23,15 @@ fn main() {
     let mut till = till::fresh();
     let mut events: u64 = 0;
     while events < 0xFFFFFFFFFFFFFFFF {
-        let fed = feeding::next_event(End::Till, &mut event);
+        let fed = feeding::next_event(rt.stdin(), to.errors, End::Till, &mut event);
         let Fed::Whole(n) = fed else {
-            ended(fed, events);
+            ended(to, fed, events);
             return;
         };
         let said = happen(till, &mut frame, &mut answer, &event, n, &mut buf);
         let word = said.word;
-        if !say(word, &buf) {
-            unwritten();
+        if let Err(why) = say(to, word, &buf) {
+            unwritten(to, why);
             return;
         }
         let after = said.till;
@@ -36,20 +41,20 @@ fn main() {
 }
 
 // Why there are no more events: at the end of the input nothing is said.
-fn ended(fed: Fed, events: u64) {
+fn ended(to: Outlets, fed: Fed, events: u64) {
     let Fed::Broken = fed else {
         return;
     };
-    io::write_all(STDERR_FILENO, b"error: after ");
-    io::print_decimal(STDERR_FILENO, events);
-    io::write_all(
-        STDERR_FILENO,
+    system::write(&to.errors, b"error: after ");
+    system::number(&to.errors, events);
+    system::write(
+        &to.errors,
         b" events comes one that is cut short or is none: a length, then 43h, 42h or 54h\n",
     );
 }
 
-fn unwritten() {
-    os::fail(b"error: standard output can't be written");
+fn unwritten(to: Outlets, why: Error) {
+    system::fail(&to.errors, b"error: standard output can't be written", &why);
 }
 
 // One event, its first n bytes. What is lent is the front of the buffer.
@@ -76,20 +81,18 @@ fn happen(
 }
 
 // The reply number, the word, the count, and the bytes put in the buffer; of Unfinished the tries alone.
-fn say(word: Word, buf: &[u8]) -> bool {
+fn say(to: Outlets, word: Word, buf: &[u8]) -> Result<()> {
     let n = till::count(word);
     let number = till::number(word);
     let head = [number, place(word), (n % 256) as u8];
-    if !io::write_all(STDOUT_FILENO, &head) {
-        return false;
-    }
+    to.output.write_all(&head)?;
     if number != 0 {
-        return true;
+        return Ok(());
     }
     if buf.len() < n {
-        return true;
+        return Ok(());
     }
-    io::write_all(STDOUT_FILENO, &buf[0..n])
+    to.output.write_all(&buf[0..n])
 }
 
 // The word's place among the five words of PROTOCOL 7.1; 0 where there is none.
