@@ -12,14 +12,10 @@ returns-then-most-s c = text_long c.args.most c.args.s.now c.if-most-s.true
 pub loop-i-init : goal.loop-i-init
 loop-i-init c = (omega arith, text_short c.args.most c.args.s.now c.if-most-s.false)
 
-pub returns-then-s-i-lt32 : goal.returns-then-s-i-lt32
-returns-then-s-i-lt32 c =
-    sym (c.loop-i.invariant.1 ∙ every_stop (leb 0x20) c.args.s.now c.loop-i.i c.loop-i-test.true (lt-leb _ _ c.if-s-i-lt32.true))
-
 pub loop-i-preserved : goal.loop-i-preserved
 loop-i-preserved c = (
   omega arith,
-  c.loop-i.invariant.1 ∙ every_turn (leb 0x20) c.args.s.now c.loop-i.i c.loop-i-test.true (le-leb _ _ c.if-s-i-lt32.false),
+  c.loop-i.invariant.1 ∙ every_turn (leb 0x20) c.args.s.now c.loop-i.i c.loop-i-test.true (le-leb _ _ (omega arith)),
 )
 
 pub returns : goal.returns

@@ -4,8 +4,8 @@ use Rattle.kinds.proofs.operators.change_with.Goals as goal
 
 pub returns-in_default : goal.returns-in_default
 returns-in_default c =
-    no_new c.args.op c.args.old c.args.new.now (sym c.read_secret-read.ensures ∙ c.in_default.is)
+    no_new c.args.op c.args.old c.args.new.now (cc)
 
 pub returns : goal.returns
 returns c =
-    changed c.args.op c.args.old c.args.new.now _ (sym c.read_secret-read.ensures ∙ c.in-Is.is)
+    changed c.args.op c.args.old c.args.new.now c.in-Is.p (cc)
