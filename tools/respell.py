@@ -114,6 +114,9 @@ def turned(text, to, fields, is_source=False):
     def one(m):
         word = m[0]
         behind = m.start() and m.string[m.start() - 1] == "."
+        # the letter of an escape is none of a name's
+        if m.start() and m.string[m.start() - 1] == "\\":
+            return word
         if behind and (word in LEMMAS or "-" in word and word not in fields):
             return word
         if is_source and word in LEMMAS:
