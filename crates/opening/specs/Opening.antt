@@ -11,7 +11,7 @@ pub record Arguments (asked : Asked) : Type 0 where
   pub words : List Argument
   pub is : asked ≡ asked_for words
 
--- and whether all can be opened, with which descriptors. Arguments of another form open nothing, and neither does what can't be opened whole. The
+-- and whether all can be opened, with which numbers. Arguments of another form open nothing, and neither does what can't be opened whole. The
 -- first recording comes next
 pub record Opened (r : Ends) : Type 0 where
   pub asked : Asked

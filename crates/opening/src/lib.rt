@@ -53,7 +53,9 @@ struct Found {
 }
 
 // Before any file is opened.
-pub fn none_held(input: Stdin, output: Stdout, errors: Stderr) -> Held {
+pub fn none_held(input: Stdin, output: Stdout, errors: Stderr) -> Held
+    ensures { result ≡ record { input = input; output = output; errors = errors; line = None; old = None; newest = None; tape = None } }
+{
     Held {
         input,
         output,

@@ -1,9 +1,9 @@
--- LINE 1.1, 2.1: the descriptors that `printer` works with.
+-- LINE 1.1, 2.1: the numbers of what `printer` holds open.
 use Rattle.std.specs.Prelude.{ℕ, ◌+◌, ◌-◌, Bool, true, false, cond, not, eqb, ltb, ℤ, pos, negsuc}
 use Rattle.options.specs.declared.Asked.{Asked}
 use Rattle.options.specs.declared.Ends.{Ends}
 
--- no descriptor: -1
+-- no number: -1
 abbrev pub none : ℤ
 none = negsuc 0
 

@@ -23,7 +23,7 @@ pub struct Asked {
     pub last: usize,
 }
 
-// The descriptors: where bytes come from, where answers go, the recording that is replayed, the last one to read and to append to, -1
+// The numbers of what is open: where bytes come from, where answers go, the recording that is replayed, the last one to read and to append to, -1
 // where there is none; the places of the recording that is replayed, or of the argument before the first, and of the last; whether it is a LINE, whether there is a recording to replay,
 // and whether all is open.
 #[derive(Clone, Copy)]
