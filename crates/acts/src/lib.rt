@@ -11,16 +11,15 @@ use deeds::{Deed, ask, drawer, sales, texts};
 use kinds::Command;
 use rules::views;
 use rules::views::View;
-use sheet::Match;
 
 // Any command on any books, with what the sheet says to it.
-pub fn carry_out(books: Books, m: Match, command: Command) -> Deed
+pub fn carry_out(books: Books, m: Option<u64>, command: Command) -> Deed
     ensures { result ≡ carried_out books m command }
 {
     act(books, m, views::view_of(command))
 }
 
-fn act(books: Books, m: Match, view: View) -> Deed
+fn act(books: Books, m: Option<u64>, view: View) -> Deed
     ensures { result ≡ deed_of books m view }
 {
     match view {

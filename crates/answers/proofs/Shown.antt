@@ -1,4 +1,5 @@
 -- What is shown can be sent: the data is short enough and of bytes that may stand there, and so are the six status bytes.
+use Rattle.std.proofs.lemmas.Bool.{and_parts}
 use mathlib.Core.Path.{◌≡◌, refl, sym, ap, ◌∙◌}
 use mathlib.Core.Bool.{Bool, true, false}
 use mathlib.Core.List.{List, [], ◌∷◌, ◌++◌, map}
@@ -10,7 +11,6 @@ use borrow.Author.Tests.{le-leb, ne_eqb}
 use Rattle.text.specs.Digits.{digits, number}
 use Rattle.text.proofs.Laws.{length_digits, number_digits}
 use Rattle.wire.specs.Bytes.{may_stand, every}
-use Rattle.basics.proofs.Tests.{both}
 use Rattle.wire.specs.Frame.{answer_of, carriable, sendable}
 use Rattle.wire.proofs.Building.{sendable_answer}
 use Rattle.wire.specs.declared.Way.TheVariants.{ToTill}
@@ -59,7 +59,7 @@ module _ (t : ℕ → Bool) where
   every_append : (xs ys : List ℕ) → every t xs ≡ true → every t ys ≡ true → every t (xs ++ ys) ≡ true
   every_append [] ys p q = q
   every_append (x ∷ xs) ys p q =
-      let h = both (t x) (every t xs) p in
+      let h = and_parts (t x) (every t xs) p in
       rw h.0 (every_append xs ys h.1 q)
 
 plain : (b : ℕ) → 0x20 ≤ b → b ≤ 0xFF → may_stand Data b ≡ true

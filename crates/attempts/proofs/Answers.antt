@@ -1,4 +1,5 @@
 -- Answered exactly when a whole answer with the SEQ and CMD waiting came since the last frame was handed out.
+use Rattle.std.proofs.lemmas.Bool.{and_parts}
 use mathlib.Core.Path.{◌≡◌, refl, sym, ap, ◌∙◌, subst}
 use mathlib.Core.Bool.{Bool, true, false, cond, ◌&&◌}
 use mathlib.Core.List.{List, [], ◌∷◌, ◌++◌, append_assoc}
@@ -10,7 +11,6 @@ use borrow.Author.Tests.{ltb-false, le-ltb, eqb-true, eq-eqb}
 use Rattle.wire.specs.Frame.{Message, command_of, frame, inner, sendable}
 use Rattle.wire.specs.Replies.{room}
 use Rattle.wire.specs.declared.Way.TheVariants.{ToDevice, ToTill}
-use Rattle.wire.proofs.Suits.{both}
 use Rattle.reader.specs.Reading.{Place, outside, Event, nothing, broken_frame, heard, read, Run, run, starts_anew}
 use Rattle.reader.proofs.Walking.{run_append}
 use Rattle.reader.proofs.RoundTrip.{read_what_was_built}
@@ -45,7 +45,7 @@ answers_heard seq code ear b a = go (nak_outside ear.place b) (read ToTill ear.p
         by : (s : Bool) → eqb m.seq seq && eqb m.code code ≡ s → cond s (answers m) failed ≡ answers a → Matches seq code ear b a
         by true t h =
             let same : m ≡ a = cc in
-            let tests = both (eqb m.seq seq) (eqb m.code code) t in
+            let tests = and_parts (eqb m.seq seq) (eqb m.code code) t in
             record {
               hears = r ∙ ap heard same;
               seq_is = ap (λ (z : Message). z.seq) (sym same) ∙ eqb-true m.seq seq tests.0;

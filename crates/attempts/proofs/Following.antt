@@ -21,8 +21,7 @@ use Rattle.till.specs.Fields.{ear_in, pending_of, state_of, till_of, framed, hel
 use Rattle.attempts.specs.Promises.{Bytes}
 use Rattle.till.specs.Private.{failed_by, heard_by, sent_by}
 use Rattle.till.specs.declared.Attempt.{Attempt}
-use Rattle.till.specs.declared.Slot.{Slot}
-use Rattle.till.specs.declared.Slot.TheVariants.{Free, Held}
+use Rattle.std.proofs.Common.{Option, Some, None}
 use Rattle.till.specs.declared.Till.{Till}
 use Rattle.till.specs.declared.Word.{Word}
 use Rattle.till.specs.declared.Word.TheVariants.{Idle, TooShort, NotSent}
@@ -95,7 +94,7 @@ module _ (t : Till) (frame-in answer-in : List ℕ) (sf : length frame-in ≡ 25
 
   -- each kind of turn
   module _ (buf : List ℕ) (big : 210 ≤ length buf) where
-    free-sent : (code : ℕ) (content : List ℕ) → t.slot ≡ Free → Follows (sent_by t.next code content)
+    free-sent : (code : ℕ) (content : List ℕ) → t.slot ≡ None → Follows (sent_by t.next code content)
     free-sent code content e = go (sendable ToDevice (command_of t.next code content)) refl
       where
         go : (s : Bool) → sendable ToDevice (command_of t.next code content) ≡ s
@@ -105,14 +104,14 @@ module _ (t : Till) (frame-in answer-in : List ℕ) (sf : length frame-in ≡ 25
             (omega (arith, (frame_size ToDevice (command_of t.next code content) es).1), omega arith)
         go false es = ap (λ z. record { next = t.next; pending = pending_of z frame-in answer-in }) e
 
-    free : t.slot ≡ Free → (h : Happening) → Follows (turn_of t frame-in answer-in buf h)
+    free : t.slot ≡ None → (h : Happening) → Follows (turn_of t frame-in answer-in buf h)
     free e (command code content) = subst Follows (sym (command_free t frame-in answer-in buf big code content e)) (free-sent code content e)
     free e (byte b) = subst Follows (sym (byte_idle t frame-in answer-in buf big b e))
         (follows-made (stays Idle (state_of t frame-in answer-in)) refl (subst (λ z. Roomy (pending_of z frame-in answer-in)) (sym e) tt))
     free e timeout = subst Follows (sym (timeout_idle t frame-in answer-in buf big e))
         (follows-made (stays Idle (state_of t frame-in answer-in)) refl (subst (λ z. Roomy (pending_of z frame-in answer-in)) (sym e) tt))
 
-    waiting : (a : Attempt) → t.slot ≡ Held a → (a.count < 256) × (a.ear.reader.count < 256) → (h : Happening) → Follows (turn_of t frame-in answer-in buf h)
+    waiting : (a : Attempt) → t.slot ≡ Some a → (a.count < 256) × (a.ear.reader.count < 256) → (h : Happening) → Follows (turn_of t frame-in answer-in buf h)
     waiting a e small (command code content) = subst Follows (sym (command_held t frame-in answer-in buf big code content a e)) (follows-stays NotSent refl)
     waiting a e small (byte b) =
         let means : Meaning = byte_means a.seq a.code (ear_in a.ear answer-in) b in
@@ -130,9 +129,9 @@ module _ (t : Till) (frame-in answer-in : List ℕ) (sf : length frame-in ≡ 25
       state_of (said_of t x).till (framed frame-in x.state.pending) (held_in answer-in x.state.pending) ≡ x.state
   fields_follow buf h = go (ltb (length buf) 210) refl
     where
-      by : 210 ≤ length buf → (z : Slot) → t.slot ≡ z → Bytes z → Follows (turn_of t frame-in answer-in buf h)
-      by big Free e small = free buf big e h
-      by big (Held a) e small = waiting buf big a e small h
+      by : 210 ≤ length buf → (z : Option Attempt) → t.slot ≡ z → Bytes z → Follows (turn_of t frame-in answer-in buf h)
+      by big None e small = free buf big e h
+      by big (Some a) e small = waiting buf big a e small h
 
       go : (s : Bool) → ltb (length buf) 210 ≡ s → Follows (turn_of t frame-in answer-in buf h)
       go true e = subst Follows (sym (too_short t frame-in answer-in buf h (ltb-true (length buf) 210 e))) (follows-stays TooShort refl)

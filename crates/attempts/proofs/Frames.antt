@@ -1,4 +1,5 @@
 -- An answer's frame, heard from any place of reading by a till end that waits for it, is Answered with its last byte.
+use Rattle.std.proofs.lemmas.Bool.{and_parts}
 use mathlib.Core.Path.{◌≡◌, refl, sym, ap, ◌∙◌, subst}
 use mathlib.Core.Bool.{true, false, cond, false≢true}
 use mathlib.Core.List.{List, [], ◌∷◌, ◌++◌}
@@ -11,7 +12,6 @@ use Rattle.wire.specs.Frame.{Message, total, bcc, counted, inner, frame, sendabl
 use Rattle.wire.specs.declared.Way.TheVariants.{ToTill}
 use Rattle.wire.specs.declared.Role.{Role}
 use Rattle.wire.specs.declared.Role.TheVariants.{Name as SeqOrCmd, Data, Status}
-use Rattle.wire.proofs.Suits.{both}
 use Rattle.wire.proofs.Building.{length-enclosed}
 use Rattle.reader.specs.Reading.{Place, outside, inside, nothing, heard, read, Run, run, starts_anew}
 use Rattle.reader.proofs.Walking.{run_first}
@@ -39,7 +39,7 @@ no_nak_stands Status b e q = false≢true (ap (may_stand Status) (sym q) ∙ e)
 no_nak_every : (sort : Role) (bs : List ℕ) → every (may_stand sort) bs ≡ true → No-nak bs
 no_nak_every sort [] e = tt
 no_nak_every sort (b ∷ bs) e =
-    let two = both (may_stand sort b) (every (may_stand sort) bs) e in
+    let two = and_parts (may_stand sort b) (every (may_stand sort) bs) e in
     (no_nak_stands sort b two.0, no_nak_every sort bs two.1)
 
 hex_no_nak : (n : ℕ) → hexadecimal n ≡ 0x15 → ⊥

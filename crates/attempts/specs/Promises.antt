@@ -1,11 +1,10 @@
 -- What the theorems about any history say.
-use Rattle.std.specs.Prelude.{ℕ, ◌≤◌, ◌<◌, ◌≡◌, true, List, [], ◌∷◌, ◌++◌, length, replicate}
+use Rattle.std.specs.Prelude.{ℕ, ◌≤◌, ◌<◌, ◌≡◌, true, List, [], ◌∷◌, ◌++◌, length, replicate, Option, Some, None}
 use Rattle.wire.specs.Frame.{Message, frame, sendable}
 use Rattle.wire.specs.declared.Way.TheVariants.{ToDevice, ToTill}
 use Rattle.till.specs.Turns.{byte}
 use Rattle.attempts.specs.History.{LentEvent, one, Seen}
-use Rattle.till.specs.declared.Slot.{Slot}
-use Rattle.till.specs.declared.Slot.TheVariants.{Free, Held}
+use Rattle.till.specs.declared.Attempt.{Attempt}
 
 -- PROTOCOL 7.6: the frames handed out for a command: one to five, and all of them its own frame
 pub record Tried (m : Message) (frames : List (List ℕ)) : Type 0 where
@@ -42,6 +41,6 @@ pub record Came (seen : Seen) (l : LentEvent) : Type 0 where
   pub whole : since ++ last ∷ [] ≡ before ++ frame ToTill answer
 
 -- a command's fields are bytes: their types say so
-abbrev pub Bytes : Slot → Type 0
-Bytes Free = Unit {0}
-Bytes (Held a) = (a.count < 256) × (a.ear.reader.count < 256)
+abbrev pub Bytes : Option Attempt → Type 0
+Bytes None = Unit {0}
+Bytes (Some a) = (a.count < 256) × (a.ear.reader.count < 256)

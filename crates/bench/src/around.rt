@@ -1,6 +1,6 @@
 // One step of what stands around the device: it is taken by the desk, and told.
 use crate::tell;
-use desk::{BACK_ROOM, Desk, PLAYS, SENDS};
+use desk::{BACK_ROOM, Desk, Phase};
 use lines::LINE_ROOM;
 use reader::FRAME_ROOM;
 use script::{Act, MOST_CONTENT};
@@ -18,16 +18,14 @@ pub(crate) fn next(
     arrived: &mut [u8; FRAME_ROOM],
     back: &[u8; BACK_ROOM],
 ) -> Desk {
-    let phase = desk.phase;
-    if phase == PLAYS {
+    if desk.phase == Phase::Plays {
         return play(input, to, desk, sent, out);
     }
-    let answers = phase != SENDS;
+    let answers = desk.phase != Phase::Sends;
     let fault = faults::fault_of(desk.faults, answers, desk.attempt);
     if answers {
         let told = desk::brought_back(desk, &*sent, answer, back, out);
-        let word = told.word;
-        tell::came(to, desk.attempt, desk.given, fault, word, &*out);
+        tell::came(to, desk.attempt, desk.given, fault, told.word, &*out);
         return told.desk;
     }
     let after = desk::on_its_way(desk, &*out, arrived);
@@ -50,21 +48,20 @@ fn play(
 ) -> Desk {
     let mut line = [0u8; LINE_ROOM];
     let mut content = [0u8; MOST_CONTENT];
-    let next = lines::input::next_act(input, to.errors, &mut line, &mut content);
-    if !next.there {
+    let Some(next) = lines::input::next_act(input, to.errors, &mut line, &mut content) else {
         return desk::ended(desk);
-    }
-    let act = next.act;
-    let after = desk::read(desk, act);
-    match act {
-        Act::Wrong(why) => tell::wrong(to, after.lines, why),
-        Act::Command { code, count } => {
+    };
+    let after = desk::read(desk, next.act);
+    match next.act {
+        Ok(Act::Command { code, count }) => {
             let told = desk::sent_to(after, sent, code, front(&content, count), out);
-            let word = told.word;
-            tell::command(to, code, front(&line, next.count), word, &*out);
-            return told.desk;
+            tell::command(to, code, front(&line, next.count), told.word, &*out);
+            told.desk
         }
-        _ => {}
+        Ok(_) => after,
+        Err(mistake) => {
+            tell::wrong(to, after.lines, mistake);
+            after
+        }
     }
-    after
 }

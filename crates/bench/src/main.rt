@@ -5,7 +5,7 @@
 mod around;
 mod tell;
 
-use desk::{BACK_ROOM, ENDED};
+use desk::{BACK_ROOM, Phase};
 use display::MOST_SHOWN;
 use reader::FRAME_ROOM;
 use std::io::Stdin;
@@ -39,11 +39,9 @@ fn play(input: Stdin, to: Outlets) {
     let mut answer = [0u8; FRAME_ROOM];
     let mut out = [0u8; FRAME_ROOM];
     let mut desk = desk::fresh();
-    let mut turns: u64 = 0;
-    while turns < 0xFFFFFFFFFFFFFFFF {
-        turns += 1;
-        if ENDED <= desk.phase {
-            tell::end(to, kept, desk.tally, desk.phase == ENDED);
+    for _ in 0..u64::MAX {
+        if matches!(desk.phase, Phase::Ended | Phase::Stopped) {
+            tell::end(to, kept, desk.tally, desk.phase == Phase::Ended);
             return;
         }
         if desk.place < desk.got {
@@ -52,14 +50,11 @@ fn play(input: Stdin, to: Outlets) {
             let bytes = around::bytes_at(&arrived, desk.got);
             let at = desk.place;
             let seen = see(kept, &mut frame, &mut last, &mut buf, &mut text, bytes, at);
-            let after = seen.kept;
-            let call = seen.call;
-            let reason = seen.reason;
-            let shows = seen.shows;
-            kept = after;
-            tell::call(to, call, seen.number, seen.taken, reason);
-            tell::shows(to, shows, &text);
-            desk = desk::heard(desk, call, seen.taken, &buf, seen.count, &mut back);
+            let next = seen.next;
+            kept = next.kept;
+            tell::call(to, next.call, next.number, next.taken, seen.reason);
+            tell::shows(to, next.shows, &text);
+            desk = desk::heard(desk, next.call, next.taken, &buf, next.count, &mut back);
             continue;
         }
         desk = around::next(

@@ -73,10 +73,9 @@ pub enum Shown {
 pub fn fresh() -> Books
     ensures { result ≡ fresh_books }
 {
-    let receipt = Receipt::empty();
     Books {
         opened: Opened::Nothing,
-        receipt,
+        receipt: Receipt::empty(),
         day: [0u64; 8],
         registers: [0u64; 4],
         drawer: Drawer {

@@ -9,52 +9,31 @@ use receipt::Receipt;
 pub fn fiscal_open(o: Opened) -> bool
     ensures { result ≡ fiscal_open o }
 {
-    match o {
-        Opened::Nothing => false,
-        Opened::Fiscal => true,
-        Opened::Text => false,
-    }
+    matches!(o, Opened::Fiscal)
 }
 
 // Whether a non-fiscal receipt is open.
 pub fn text_open(o: Opened) -> bool
     ensures { result ≡ text_open o }
 {
-    match o {
-        Opened::Nothing => false,
-        Opened::Fiscal => false,
-        Opened::Text => true,
-    }
+    matches!(o, Opened::Text)
 }
 
 // Whether a receipt of either kind is open.
 pub fn any_open(o: Opened) -> bool
     ensures { result ≡ any_open o }
 {
-    match o {
-        Opened::Nothing => false,
-        Opened::Fiscal => true,
-        Opened::Text => true,
-    }
+    matches!(o, Opened::Fiscal | Opened::Text)
 }
 
 // The books with this open, and this the fiscal receipt.
 pub fn with_receipt(books: Books, opened: Opened, receipt: Receipt) -> Books
     ensures { result ≡ with_receipt books opened receipt }
 {
-    let day = books.day;
-    let registers = books.registers;
-    let drawer = books.drawer;
-    let counters = books.counters;
-    let memory = books.memory;
     Books {
         opened,
         receipt,
-        day,
-        registers,
-        drawer,
-        counters,
-        memory,
+        ..books
     }
 }
 
@@ -62,34 +41,26 @@ pub fn with_receipt(books: Books, opened: Opened, receipt: Receipt) -> Books
 pub fn with_day(books: Books, day: [u64; 8]) -> Books
     ensures { result ≡ with_day books day }
 {
-    let mut next = books;
-    next.day = day;
-    next
+    Books { day, ..books }
 }
 
 // The books with these pay registers.
 pub fn with_registers(books: Books, registers: [u64; 4]) -> Books
     ensures { result ≡ with_registers books registers }
 {
-    let mut next = books;
-    next.registers = registers;
-    next
+    Books { registers, ..books }
 }
 
 // The books with this drawer.
 pub fn with_drawer(books: Books, drawer: Drawer) -> Books
     ensures { result ≡ with_drawer books drawer }
 {
-    let mut next = books;
-    next.drawer = drawer;
-    next
+    Books { drawer, ..books }
 }
 
 // The books with these counters.
 pub fn with_counters(books: Books, counters: Counters) -> Books
     ensures { result ≡ with_counters books counters }
 {
-    let mut next = books;
-    next.counters = counters;
-    next
+    Books { counters, ..books }
 }

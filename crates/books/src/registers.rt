@@ -2,7 +2,7 @@
 ghost use Rattle.std.specs.Prelude.{◌≡◌};
 ghost use Rattle.books.specs.Registers.{place, register_of, with_register};
 
-use crate::{Books, parts};
+use crate::Books;
 use kinds::Mode;
 
 fn place_of(mode: Mode) -> usize
@@ -21,26 +21,23 @@ fn place_of(mode: Mode) -> usize
 pub fn register_of(books: Books, mode: Mode) -> u64
     ensures { result ≡ register_of books mode }
 {
-    let drawer = books.drawer;
-    let registers = books.registers;
     let i = place_of(mode);
     if i < 4 {
-        return registers[i];
+        return books.registers[i];
     }
-    drawer.cash
+    books.drawer.cash
 }
 
 // The books with this in the mode's register, or as cash.
 pub fn with_register(books: Books, mode: Mode, sum: u64) -> Books
     ensures { result ≡ with_register books mode sum }
 {
-    let mut drawer = books.drawer;
-    let mut registers = books.registers;
     let i = place_of(mode);
+    let mut next = books;
     if i < 4 {
-        registers[i] = sum;
-        return parts::with_registers(books, registers);
+        next.registers[i] = sum;
+    } else {
+        next.drawer.cash = sum;
     }
-    drawer.cash = sum;
-    parts::with_drawer(books, drawer)
+    next
 }

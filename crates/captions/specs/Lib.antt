@@ -1,2 +1,1 @@
 pub mod Captions
-pub mod Private

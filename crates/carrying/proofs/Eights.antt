@@ -9,12 +9,11 @@ use lib.ListN.{length, set, length-set, length-append}
 use Rattle.wire.specs.Frame.{Message}
 use Rattle.wire.proofs.Building.{length-enclosed}
 use Rattle.kinds.specs.declared.Mode.{Mode}
-use Rattle.kinds.specs.declared.Parsed.{Parsed}
-use Rattle.kinds.specs.declared.Parsed.TheVariants.{Read, Syntax, Unknown}
+use Rattle.kinds.specs.Fields.{Parsed}
+use Rattle.std.specs.Prelude.{Ok, Err, Option}
 use Rattle.command.specs.Commands.{parsed_of}
 use Rattle.sheet.specs.Searches.{place_of, match_of}
 use Rattle.sheet.proofs.Noting.{noted_length}
-use Rattle.sheet.specs.declared.Match.{Match}
 use Rattle.receipt.specs.Receipts.{group_after}
 use Rattle.books.specs.Books.{with_receipt, with_drawer, with_registers}
 use Rattle.books.specs.Registers.{place, register_of, with_register}
@@ -45,7 +44,7 @@ raised b m sum h = go (ltb (place m) 4)
     go true = record { day = h.day; groups = h.groups }
     go false = record { day = h.day; groups = h.groups }
 
-done_keeps : (b : Books) (m : Match) (v : View) → Eights b → Eights (rule_of b m v).after
+done_keeps : (b : Books) (m : Option ℕ) (v : View) → Eights b → Eights (rule_of b m v).after
 done_keeps b m Opens h = record { day = h.day; groups = refl }
 done_keeps b m (Sells s) h = record { day = h.day; groups = length-set b.receipt.groups s.group (group_after b.receipt s m) ∙ h.groups }
 done_keeps b m (Adjusts a) h = record { day = h.day; groups = refl }
@@ -61,7 +60,7 @@ done_keeps b m (Puts n) h = record { day = h.day; groups = h.groups }
 done_keeps b m (Takes n) h = record { day = h.day; groups = h.groups }
 done_keeps b m (Asks when shown) h = h
 
-deed_keeps : (b : Books) (m : Match) (v : View) → Eights b → Eights (deed_of b m v).books
+deed_keeps : (b : Books) (m : Option ℕ) (v : View) → Eights b → Eights (deed_of b m v).books
 deed_keeps b m v h = go rule.one rule.three rule.four
   where
     rule : Rule
@@ -74,11 +73,10 @@ deed_keeps b m v h = go rule.one rule.three rule.four
     go false false true = h
     go false false false = done_keeps b m v h
 
-pub eights_stay : (b : Books) (m : Match) (passes : Bool) (p : Parsed) → Eights b → Eights (deed_for b m passes p).books
-eights_stay b m true (Read c) h = deed_keeps b m (view_of c) h
-eights_stay b m false (Read c) h = h
-eights_stay b m passes Syntax h = h
-eights_stay b m passes Unknown h = h
+pub eights_stay : (b : Books) (m : Option ℕ) (passes : Bool) (p : Parsed) → Eights b → Eights (deed_for b m passes p).books
+eights_stay b m true (Ok c) h = deed_keeps b m (view_of c) h
+eights_stay b m false (Ok c) h = h
+eights_stay b m passes (Err why) h = h
 
 pub carry_keeps : (s : Store) (m : Message) → Eights s.books → Eights (carry s m).store.books
 carry_keeps s m h =

@@ -1,4 +1,5 @@
 -- Laws of a command carried out: the answer's data put in its place, the frame around it, and what the books did as the device's work.
+use Rattle.std.specs.Prelude.{Option}
 use mathlib.Core.Path.{◌≡◌, refl, sym, ap, ◌∙◌}
 use mathlib.Core.Bool.{Bool, cond}
 use mathlib.Core.List.{List, ◌∷◌, ◌++◌}
@@ -7,32 +8,32 @@ use native.Mathlib.Omega.{arith}
 use lib.ListN.{length, take, drop, length-append, length-drop}
 use lib.Seq.{sets, length-sets, length-take-le}
 use borrow.Author.Tests.{lt-ltb, le-ltb}
+use Rattle.std.proofs.Common.{Result, Ok, Err}
 use Rattle.wire.specs.Frame.{answer_of, frame}
 use Rattle.wire.specs.Replies.{reply_of, sealing}
-use Rattle.wire.specs.declared.Built.{Built}
-use Rattle.wire.specs.declared.Built.TheVariants as built
+use Rattle.wire.specs.declared.Unbuilt.{Unbuilt}
+use Rattle.wire.specs.declared.Unbuilt.TheVariants.{Short, Unsendable}
 use Rattle.wire.specs.declared.Way.TheVariants.{ToTill}
 use Rattle.wire.proofs.Building.{length-enclosed, around, seal_done}
-use Rattle.kinds.specs.declared.Parsed.{Parsed}
-use Rattle.sheet.specs.declared.Match.{Match}
+use Rattle.kinds.specs.Fields.{Parsed}
 use Rattle.sheet.specs.declared.Note.TheVariants.{Nothing}
 use Rattle.books.specs.declared.Books.{Books}
 use Rattle.deeds.specs.declared.Deed.{Deed}
 use Rattle.carrying.specs.Carrying.{deed_for, answer_bytes}
 use Rattle.carrying.specs.Work.{Worked, work_done, worked, size_of}
 
-reply_count : (b : Built) (l : List ℕ) → (reply_of b l).count ≡ size_of b
-reply_count (built.Frame n) l = refl
-reply_count built.Short l = refl
-reply_count built.Unsendable l = refl
+reply_count : (b : Result ℕ Unbuilt) (l : List ℕ) → (reply_of b l).count ≡ size_of b
+reply_count (Ok n) l = refl
+reply_count (Err Short) l = refl
+reply_count (Err Unsendable) l = refl
 
-reply_buffer : (b : Built) (l : List ℕ) → (reply_of b l).buffer ≡ l
-reply_buffer (built.Frame n) l = refl
-reply_buffer built.Short l = refl
-reply_buffer built.Unsendable l = refl
+reply_buffer : (b : Result ℕ Unbuilt) (l : List ℕ) → (reply_of b l).buffer ≡ l
+reply_buffer (Ok n) l = refl
+reply_buffer (Err Short) l = refl
+reply_buffer (Err Unsendable) l = refl
 
 -- data put in its place, then the frame around it
-module _ (l content status made : List ℕ) (seq code n : ℕ) (b1 b2 : List ℕ) (b : Built) (room : 217 ≤ length l) (few : length content ≤ 200) (six : length status ≡ 6)
+module _ (l content status made : List ℕ) (seq code n : ℕ) (b1 b2 : List ℕ) (b : Result ℕ Unbuilt) (room : 217 ≤ length l) (few : length content ≤ 200) (six : length status ≡ 6)
     (en : n ≡ length content) (e1 : b1 ≡ sets l 4 content) (es : made ≡ status) (em : reply_of b b2 ≡ sealing b1 seq code n made) where
   abbrev answer : List ℕ
   answer = frame ToTill (answer_of seq code content status)
@@ -73,7 +74,7 @@ work_is b seq code d size l b2 es e2 =
     λ i. record { work = record { number = d.number; books = d.books; count = es i; note = d.note }; buffer = e2 i }
 
 -- with the buffer's length known
-module _ (b : Books) (m : Match) (seq code : ℕ) (passes : Bool) (p : Parsed) (l : List ℕ) where
+module _ (b : Books) (m : Option ℕ) (seq code : ℕ) (passes : Bool) (p : Parsed) (l : List ℕ) where
   abbrev short : Worked
   short = record { work = record { number = 7; books = b; count = 0; note = Nothing }; buffer = l }
 

@@ -1,15 +1,12 @@
 -- PROTOCOL 1.11: a whole frame carried out. Its command is judged and answered, one that is refused (1 to 4) too.
-use Rattle.std.specs.Prelude.{ℕ, Bool, cond, List, [], ◌∷◌, ◌++◌}
+use Rattle.std.specs.Prelude.{ℕ, Bool, cond, List, [], ◌∷◌, ◌++◌, Option, Ok, Err}
 use Rattle.wire.specs.Frame.{Message, answer_of, frame}
 use Rattle.wire.specs.declared.Way.TheVariants.{ToTill}
 use Rattle.display.specs.Display.{shown_by}
-use Rattle.kinds.specs.Fields.{parsed_number}
-use Rattle.kinds.specs.declared.Parsed.{Parsed}
-use Rattle.kinds.specs.declared.Parsed.TheVariants.{Read, Syntax, Unknown}
+use Rattle.kinds.specs.Fields.{parsed_number, Parsed}
 use Rattle.command.specs.Commands.{parsed_of}
 use Rattle.books.specs.declared.Books.{Books}
 use Rattle.sheet.specs.Searches.{no_search, place_of, match_of}
-use Rattle.sheet.specs.declared.Match.{Match}
 use Rattle.sheet.specs.declared.Search.{Search}
 use Rattle.rules.specs.Searches.{search_for}
 use Rattle.rules.specs.Views.{view_of}
@@ -25,15 +22,13 @@ use Rattle.store.specs.Commands.{left_by}
 
 -- PROTOCOL 5.4: what is looked for in the sheet
 abbrev pub search_in : Books → Parsed → Search
-search_in b (Read c) = search_for b (view_of c)
-search_in b Syntax = no_search
-search_in b Unknown = no_search
+search_in b (Ok c) = search_for b (view_of c)
+search_in b (Err why) = no_search
 
 -- PROTOCOL 2.2: 2 and 1 are told before books and sheet are asked for 3 and 4; 5.20: what the guard does not let pass is 3
-abbrev pub deed_for : Books → Match → (passes : Bool) → Parsed → Deed
-deed_for b m passes (Read c) = cond passes (carried_out b m c) (refused_with 3 b)
-deed_for b m passes Syntax = refused_with (parsed_number Syntax) b
-deed_for b m passes Unknown = refused_with (parsed_number Unknown) b
+abbrev pub deed_for : Books → Option ℕ → (passes : Bool) → Parsed → Deed
+deed_for b m passes (Ok c) = cond passes (carried_out b m c) (refused_with 3 b)
+deed_for b m passes (Err why) = refused_with (parsed_number (Err why)) b
 
 -- PROTOCOL 1.2: the answer bears the SEQ and CMD of its command; 5.1, 3.1: the data of a command done, or none, and the status after it
 abbrev pub answer_to : Books → ℕ → ℕ → Deed → Message

@@ -1,10 +1,9 @@
 -- A command carried out in a lent buffer.
-use Rattle.std.specs.Prelude.{ℕ, Bool, cond, List, ◌++◌, ltb, length}
+use Rattle.std.specs.Prelude.{ℕ, Bool, cond, Result, List, ◌++◌, ltb, length, Option}
+use Rattle.std.specs.Result.{result_unwrap_or}
 use Rattle.std.proofs.lemmas.List.Edits.{sets}
-use Rattle.wire.specs.declared.Built.{Built}
-use Rattle.wire.specs.declared.Built.TheVariants.{Frame, Short, Unsendable}
-use Rattle.kinds.specs.declared.Parsed.{Parsed}
-use Rattle.sheet.specs.declared.Match.{Match}
+use Rattle.wire.specs.declared.Unbuilt.{Unbuilt}
+use Rattle.kinds.specs.Fields.{Parsed}
 use Rattle.sheet.specs.declared.Note.TheVariants.{Nothing}
 use Rattle.books.specs.declared.Books.{Books}
 use Rattle.deeds.specs.declared.Deed.{Deed}
@@ -27,13 +26,11 @@ work_done b seq code d buffer =
     }
 
 -- PROTOCOL 2.4: with less than 217 bytes lent it is 7, and all stays
-abbrev pub worked : Books → Match → ℕ → ℕ → (passes : Bool) → Parsed → List ℕ → Worked
+abbrev pub worked : Books → Option ℕ → ℕ → ℕ → (passes : Bool) → Parsed → List ℕ → Worked
 worked b m seq code passes p buffer =
     cond (ltb (length buffer) 217) (record { work = record { number = 7; books = b; count = 0; note = Nothing }; buffer = buffer })
     (work_done b seq code (deed_for b m passes p) buffer)
 
 -- the size of a frame that was built; of any other none
-abbrev pub size_of : Built → ℕ
-size_of (Frame n) = n
-size_of Short = 0
-size_of Unsendable = 0
+abbrev pub size_of : Result ℕ Unbuilt → ℕ
+size_of built = result_unwrap_or built 0

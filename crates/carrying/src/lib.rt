@@ -3,14 +3,14 @@
 
 ghost use Rattle.std.specs.Prelude.{◌≡◌, ◌≤◌, length};
 ghost use Rattle.carrying.specs.Carrying.{search_in, deed_for};
-ghost use Rattle.carrying.specs.Work.{worked, work_done, size_of};
+ghost use Rattle.carrying.specs.Work.{worked, work_done};
 
 use books::Books;
 use deeds::Deed;
-use kinds::Parsed;
+use kinds::{Command, Unread};
 use rules::{searches, views};
-use sheet::{Match, Note, Search};
-use wire::{ANSWER_ROOM, Built, build};
+use sheet::{Note, Search};
+use wire::{ANSWER_ROOM, build};
 
 // A command carried out: what is given back is the first `count` bytes of the lent buffer; the note is for the sheet.
 #[derive(Clone, Copy)]
@@ -22,13 +22,12 @@ pub struct Work {
 }
 
 // What a command looks for in the sheet.
-pub fn search_in(books: Books, parsed: Parsed) -> Search
+pub fn search_in(books: Books, parsed: Result<Command, Unread>) -> Search
     ensures { result ≡ search_in books parsed }
 {
     match parsed {
-        Parsed::Read(c) => searches::search_for(books, views::view_of(c)),
-        Parsed::Syntax => searches::no_search(),
-        Parsed::Unknown => searches::no_search(),
+        Ok(c) => searches::search_for(books, views::view_of(c)),
+        Err(_) => searches::no_search(),
     }
 }
 
@@ -36,11 +35,11 @@ pub fn search_in(books: Books, parsed: Parsed) -> Search
 // built in the lent buffer; with less than 217 bytes it is 7.
 pub fn carry_out(
     books: Books,
-    m: Match,
+    m: Option<u64>,
     seq: u8,
     code: u8,
     passes: bool,
-    parsed: Parsed,
+    parsed: Result<Command, Unread>,
     buf: &mut [u8],
 ) -> Work
     ensures buf_after { record { work = result; buffer = buf.new } ≡ worked books m seq code passes parsed buf.old }
@@ -77,7 +76,7 @@ fn answer(books: Books, deed: Deed, seq: u8, code: u8, buf: &mut [u8]) -> Work
     Work {
         number,
         books: after,
-        count: size_of(built),
+        count: built.unwrap_or(0),
         note,
     }
 }
@@ -89,27 +88,17 @@ fn sized(day: [u64; 8], sums: [u64; 8], groups: [u64; 8]) -> bool
     true
 }
 
-fn deed_for(books: Books, m: Match, passes: bool, parsed: Parsed) -> Deed
+fn deed_for(books: Books, m: Option<u64>, passes: bool, parsed: Result<Command, Unread>) -> Deed
     ensures { result ≡ deed_for books m passes parsed }
 {
     match parsed {
-        Parsed::Read(c) => {
+        Ok(c) => {
             if passes {
                 return acts::carry_out(books, m, c);
             }
             deeds::refuse(3, books)
         }
-        Parsed::Syntax => deeds::refuse(1, books),
-        Parsed::Unknown => deeds::refuse(2, books),
-    }
-}
-
-fn size_of(built: Built) -> usize
-    ensures { result ≡ size_of built }
-{
-    match built {
-        Built::Frame(n) => n,
-        Built::Short => 0,
-        Built::Unsendable => 0,
+        Err(Unread::Syntax) => deeds::refuse(1, books),
+        Err(Unread::Unknown) => deeds::refuse(2, books),
     }
 }

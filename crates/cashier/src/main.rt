@@ -5,7 +5,7 @@
 mod serial;
 mod tell;
 
-use clerk::{ENDED, STOPPED};
+use clerk::Phase;
 use reader::FRAME_ROOM;
 use std::env::Env;
 use std::fs::File;
@@ -18,11 +18,10 @@ fn main(rt: HostRuntime) {
         output: rt.stdout(),
         errors: rt.stderr(),
     };
-    let errand = arguments(&rt);
-    if !errand.fits {
+    let Some(errand) = arguments(&rt) else {
         system::write(&to.errors, b"error: usage: cashier [-k] -l LINE <SCRIPT\n");
         return;
-    }
+    };
     let mut path = [0u8; NAME_ROOM];
     let n = system::arg(&rt, errand.line, &mut path);
     match system::open_update(&rt, &path[..n]) {
@@ -38,7 +37,7 @@ fn main(rt: HostRuntime) {
 }
 
 // An option has two letters: of a longer argument as much is looked at as shows that it is none.
-fn arguments(rt: &impl Env) -> Errand {
+fn arguments(rt: &impl Env) -> Option<Errand> {
     let mut first = [0u8; 8];
     let mut second = [0u8; 8];
     let n = system::arg(rt, 1, &mut first);
@@ -52,12 +51,14 @@ fn play(input: Stdin, to: Outlets, line: &File, keep: bool) {
     let mut answer = [0u8; FRAME_ROOM];
     let mut out = [0u8; FRAME_ROOM];
     let mut clerk = clerk::fresh();
-    let mut turns: u64 = 0;
-    while turns < 0xFFFFFFFFFFFFFFFF {
-        turns += 1;
-        if ENDED <= clerk.phase {
-            tell::end(to, clerk.phase == STOPPED, clerk.lines, clerk.why);
-            return;
+    for _ in 0..u64::MAX {
+        match clerk.phase {
+            Phase::Ended => return,
+            Phase::Stopped(stop) => {
+                tell::stopped(to, clerk.lines, stop);
+                return;
+            }
+            _ => {}
         }
         clerk = serial::next(
             input,

@@ -1,6 +1,6 @@
 // One step of a script on a real line: something is read or written, and the clerk is told of it.
 use crate::tell;
-use clerk::{Clerk, HEARS, PLAYS, SENDS};
+use clerk::{Clerk, Phase};
 use lines::LINE_ROOM;
 use reader::FRAME_ROOM;
 use script::{Act, MOST_CONTENT};
@@ -19,20 +19,18 @@ pub(crate) fn next(
     answer: &mut [u8; FRAME_ROOM],
     out: &mut [u8; FRAME_ROOM],
 ) -> Clerk {
-    let phase = clerk.phase;
-    if phase == PLAYS {
-        return play(input, to, clerk, sent, out);
+    match clerk.phase {
+        Phase::Plays => play(input, to, clerk, sent, out),
+        Phase::Hears => hear(clerk, line, &*sent, answer, out),
+        Phase::Sends => {
+            write(to, line, &*out, till::count(clerk.word));
+            clerk::written(clerk)
+        }
+        _ => {
+            tell::says(to, clerk.word, &*out);
+            clerk::told(clerk, keep)
+        }
     }
-    if phase == HEARS {
-        return hear(clerk, line, &*sent, answer, out);
-    }
-    let word = clerk.word;
-    if phase == SENDS {
-        write(to, line, &*out, till::count(word));
-        return clerk::written(clerk);
-    }
-    tell::says(to, word, &*out);
-    clerk::told(clerk, keep)
 }
 
 // One line of the script.
@@ -45,15 +43,13 @@ fn play(
 ) -> Clerk {
     let mut line = [0u8; LINE_ROOM];
     let mut content = [0u8; MOST_CONTENT];
-    let next = lines::input::next_act(input, to.errors, &mut line, &mut content);
-    if !next.there {
+    let Some(next) = lines::input::next_act(input, to.errors, &mut line, &mut content) else {
         return clerk::ended(clerk);
-    }
-    let act = next.act;
-    if let Act::Command { code, count: _ } = act {
+    };
+    if let Ok(Act::Command { code, .. }) = next.act {
         tell::heading(to, code, front(&line, next.count));
     }
-    clerk::play(clerk, act, &content, sent, out)
+    clerk::play(clerk, next.act, &content, sent, out)
 }
 
 // A frame that can't be written is one that nobody hears.
@@ -72,9 +68,6 @@ fn hear(
     out: &mut [u8],
 ) -> Clerk {
     let mut came = [0u8; FRAME_ROOM];
-    let n = match line.read(&mut came) {
-        Ok(n) => n,
-        Err(_) => 0,
-    };
+    let n = line.read(&mut came).unwrap_or(0);
     clerk::hear(clerk, sent, answer, front(&came, n), out)
 }

@@ -1,4 +1,5 @@
 // What is told: a line for each command on standard output, and what is wrong on standard error.
+use clerk::Stop;
 use sentences::front;
 use system::Outlets;
 use till::Word;
@@ -19,12 +20,9 @@ pub(crate) fn says(to: Outlets, word: Word, got: &[u8]) {
     system::write(&to.output, front(&text, n));
 }
 
-// What is wrong with a line of the script, or stops it, where something does.
-pub(crate) fn end(to: Outlets, stopped: bool, line: u64, why: u8) {
-    if !stopped {
-        return;
-    }
+// What is wrong with a line of the script, or stops it.
+pub(crate) fn stopped(to: Outlets, line: u64, stop: Stop) {
     let mut text = [0u8; TEXT_ROOM];
-    let n = phrases::wrong(&mut text, 0, line, why);
+    let n = phrases::wrong(&mut text, 0, line, clerk::number(stop));
     system::write(&to.errors, front(&text, n));
 }

@@ -1,3 +1,2 @@
-mod Standing
 pub mod Ending
 pub mod Silence

@@ -1,9 +1,11 @@
 -- SCRIPTS 8, LINE 5: a script sent over a real line, by a till end.
-use Rattle.std.specs.Prelude.{ℕ, ◌-◌, Bool, false, cond, not, ◌||◌, List, [], eqb, length, take}
+use Rattle.std.specs.Prelude.{ℕ, ◌-◌, Bool, true, false, cond, not, ◌||◌, List, [], eqb, length, take, Result, Ok, Err}
 use Rattle.std.proofs.lemmas.List.Edits.{sets}
 use Rattle.exchange.specs.Exchange.{Heard, heard_some, heard_back}
 use Rattle.script.specs.declared.Act.{Act}
-use Rattle.script.specs.declared.Act.TheVariants.{Nothing, Wrong, Happens, Command}
+use Rattle.script.specs.declared.Act.TheVariants.{Nothing, Happens, Command}
+use Rattle.script.specs.declared.Mistake.{Mistake}
+use Rattle.script.specs.Script as mistakes
 use Rattle.tally.specs.Tally.{one_more}
 use Rattle.till.specs.Turns.{fresh_state, command}
 use Rattle.till.specs.Fields.{till_of, framed, said_of, turn_of}
@@ -11,62 +13,43 @@ use Rattle.till.specs.declared.Said.{Said}
 use Rattle.till.specs.declared.Word.{Word}
 use Rattle.till.specs.declared.Word.TheVariants.{Idle, Waiting, SendAgain, Answered, Unfinished, TooShort, NotSent}
 use Rattle.clerk.specs.declared.Clerk.{Clerk}
-
--- what comes next: a line of the script, a frame to write, bytes to read, a word to tell, the end of the script, or nothing behind what stopped it
-abbrev pub plays : ℕ
-plays = 0
-
-abbrev pub sends : ℕ
-sends = 1
-
-abbrev pub hears : ℕ
-hears = 2
-
-abbrev pub tells : ℕ
-tells = 3
-
-abbrev pub ended : ℕ
-ended = 4
-
-abbrev pub stopped : ℕ
-stopped = 5
+use Rattle.clerk.specs.declared.Phase.{Phase}
+use Rattle.clerk.specs.declared.Phase.TheVariants.{Plays, Sends, Hears, Tells, Ended, Stopped}
+use Rattle.clerk.specs.declared.Stop.{Stop}
+use Rattle.clerk.specs.declared.Stop.TheVariants.{Wrong, Fault}
+use Rattle.clerk.specs.declared.Stop.TheVariants as stop
 
 -- LINE 5.1: the reads of one try
 abbrev pub most_reads : ℕ
 most_reads = 1000
 
--- SCRIPTS 8: what stops a script beside its wrong lines (SCRIPTS 6): a fault in it, and a command that ended UNFINISHED
-abbrev pub no_faults : ℕ
-no_faults = 6
-
-abbrev pub unfinished : ℕ
-unfinished = 7
+-- SCRIPTS 8: the number of what stops a script: of a wrong line SCRIPTS 6's; beside these a fault in it, and a command that ended UNFINISHED
+abbrev pub number_of : Stop → ℕ
+number_of (Wrong mistake) = mistakes.number_of mistake
+number_of Fault = 6
+number_of stop.Unfinished = 7
 
 -- SCRIPTS 8: a fresh till end, and no line of the script read
 abbrev pub fresh_clerk : Clerk
-fresh_clerk = record { till = till_of fresh_state; word = Idle; phase = plays; lines = 0; why = 0; reads = 0 }
-
--- the same clerk with another phase, lines of the script and what stopped it
-abbrev pub turned : Clerk → (phase lines why : ℕ) → Clerk
-turned c phase lines why = record { till = c.till; word = c.word; phase = phase; lines = lines; why = why; reads = c.reads }
+fresh_clerk = record { till = till_of fresh_state; word = Idle; phase = Plays; lines = 0; reads = 0 }
 
 -- SCRIPTS 1: the script has no line more
 abbrev pub end_of : Clerk → Clerk
-end_of c = turned c ended c.lines c.why
+end_of c = record c { phase = Ended }
 
 -- PROTOCOL 7.5, 7.6: Send again is a frame to write, and any other word but Waiting ends the command
-abbrev pub next_of : (waiting : ℕ) → Word → ℕ
-next_of waiting Idle = tells
+abbrev pub next_of : (waiting : Phase) → Word → Phase
+next_of waiting Idle = Tells
 next_of waiting (Waiting count) = waiting
-next_of waiting (SendAgain count) = sends
-next_of waiting (Answered count) = tells
-next_of waiting (Unfinished tries) = tells
-next_of waiting TooShort = tells
-next_of waiting NotSent = tells
+next_of waiting (SendAgain count) = Sends
+next_of waiting (Answered count) = Tells
+next_of waiting (Unfinished tries) = Tells
+next_of waiting TooShort = Tells
+next_of waiting NotSent = Tells
 
-abbrev pub behind : Clerk → (waiting : ℕ) → Said → (reads : ℕ) → Clerk
+abbrev pub behind : Clerk → (waiting : Phase) → Said → (reads : ℕ) → Clerk
 behind c waiting said reads =
-    record { till = said.till; word = said.word; phase = next_of waiting said.word; lines = c.lines; why = c.why; reads = reads }
+    record c { till = said.till; word = said.word; phase = next_of waiting said.word; reads = reads }
 
 -- a clerk, with the frame's array and the lent buffer
 pub record Begun : Type 0 where
@@ -78,27 +61,36 @@ pub record Begun : Type 0 where
 abbrev pub begun : Clerk → (code : ℕ) → (content frame buffer : List ℕ) → Begun
 begun c code content frame buffer =
     let turn = turn_of c.till frame [] buffer (command code content) in
-    record { clerk = behind c sends (said_of c.till turn) c.reads; frame = framed frame turn.state.pending; buffer = sets buffer 0 turn.puts }
+    record { clerk = behind c Sends (said_of c.till turn) c.reads; frame = framed frame turn.state.pending; buffer = sets buffer 0 turn.puts }
 
 -- SCRIPTS 6, 8: each line is counted; a wrong one stops the script, and so does a fault; the data of a command is the front of what is lent
 abbrev pub counted : Clerk → Clerk
-counted c = turned c c.phase (one_more c.lines) c.why
+counted c = record c { lines = one_more c.lines }
 
-abbrev pub halted : Clerk → (why : ℕ) → Clerk
-halted c why = turned c stopped c.lines why
+abbrev pub halted : Clerk → Stop → Clerk
+halted c stop = record c { phase = Stopped stop }
 
 abbrev pub unsent : Clerk → (frame buffer : List ℕ) → Begun
 unsent c frame buffer = record { clerk = c; frame = frame; buffer = buffer }
 
-abbrev pub line_of : Clerk → Act → (content frame buffer : List ℕ) → Begun
-line_of c Nothing content frame buffer = unsent (counted c) frame buffer
-line_of c (Wrong why) content frame buffer = unsent (halted (counted c) why) frame buffer
-line_of c (Happens answer attempt fault) content frame buffer = unsent (halted (counted c) no_faults) frame buffer
-line_of c (Command code count) content frame buffer = begun (counted c) code (take count content) frame buffer
+abbrev pub line_of : Clerk → Result Act Mistake → (content frame buffer : List ℕ) → Begun
+line_of c (Ok Nothing) content frame buffer = unsent (counted c) frame buffer
+line_of c (Ok (Command code count)) content frame buffer = begun (counted c) code (take count content) frame buffer
+line_of c (Ok (Happens answer attempt fault)) content frame buffer = unsent (halted (counted c) Fault) frame buffer
+line_of c (Err mistake) content frame buffer = unsent (halted (counted c) (Wrong mistake)) frame buffer
 
 -- LINE 5.1: a frame is written, and its try has all its reads
 abbrev pub written_by : Clerk → Clerk
-written_by c = record { till = c.till; word = c.word; phase = hears; lines = c.lines; why = c.why; reads = most_reads }
+written_by c = record c { phase = Hears; reads = most_reads }
+
+-- whether bytes are to be read
+abbrev pub is_hearing : Phase → Bool
+is_hearing Plays = false
+is_hearing Sends = false
+is_hearing Hears = true
+is_hearing Tells = false
+is_hearing Ended = false
+is_hearing (Stopped stop) = false
 
 -- LINE 5.1: behind a read that gives nothing, and behind the last one, no byte comes in time (PROTOCOL 7.5)
 abbrev pub is_last : (reads : ℕ) → (bytes : List ℕ) → Bool
@@ -110,7 +102,7 @@ read_by c frame answer buffer bytes =
 
 -- PROTOCOL 7.5: where the till end waits still, bytes are read again
 abbrev pub heard_by : Clerk → Said → Clerk
-heard_by c said = behind c hears said (c.reads - 1)
+heard_by c said = behind c Hears said (c.reads - 1)
 
 -- SCRIPTS 8: UNFINISHED stops a script, unless it is told -k
 abbrev pub stops : (keep : Bool) → Word → Bool
@@ -123,4 +115,4 @@ stops keep TooShort = false
 stops keep NotSent = false
 
 abbrev pub told_of : (keep : Bool) → Clerk → Clerk
-told_of keep c = cond (stops keep c.word) (halted c unfinished) (turned c plays c.lines c.why)
+told_of keep c = cond (stops keep c.word) (halted c stop.Unfinished) (record c { phase = Plays })

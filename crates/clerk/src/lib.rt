@@ -4,43 +4,54 @@
 
 ghost use Rattle.std.specs.Prelude.{◌≡◌, cond};
 ghost use Rattle.exchange.specs.Exchange.{heard_some, heard_back};
-ghost use Rattle.clerk.specs.Clerk.{fresh_clerk, end_of, next_of, behind, begun, halted, line_of, written_by, read_by, heard_by, stops, told_of};
+ghost use Rattle.clerk.specs.Clerk.{number_of, fresh_clerk, end_of, next_of, behind, begun, halted, line_of, written_by, read_by, heard_by, told_of};
 
 use reader::FRAME_ROOM;
-use script::Act;
+use script::{Act, Mistake};
 use sentences::front;
 use till::{Said, Till, Word};
 
-// What comes next: a line of the script, a frame to write, bytes to read, or a word of the till end to tell.
-pub const PLAYS: u8 = 0;
+// What comes next: a line of the script, a frame to write, bytes to read, or a word of the till end to tell; or the script is at its end, or
+// something stops it.
+#[derive(Clone, Copy, PartialEq, Eq)]
+pub enum Phase {
+    Plays,
+    Sends,
+    Hears,
+    Tells,
+    Ended,
+    Stopped(Stop),
+}
 
-pub const SENDS: u8 = 1;
+// SCRIPTS 8: what stops a script: a wrong line, a fault in it, or a command that ended UNFINISHED.
+#[derive(Clone, Copy, PartialEq, Eq)]
+pub enum Stop {
+    Wrong(Mistake),
+    Fault,
+    Unfinished,
+}
 
-pub const HEARS: u8 = 2;
-
-pub const TELLS: u8 = 3;
-
-// The script is at its end, or something stops it.
-pub const ENDED: u8 = 4;
-
-pub const STOPPED: u8 = 5;
+// The number by which it is told: of a wrong line that of SCRIPTS 6.
+pub fn number(stop: Stop) -> u8
+    ensures { result ≡ number_of stop }
+{
+    match stop {
+        Stop::Wrong(mistake) => script::number(mistake),
+        Stop::Fault => 6,
+        Stop::Unfinished => 7,
+    }
+}
 
 // LINE 5.1: an answer has 217 bytes at most: where so many reads brought none, none comes.
 pub const MOST_READS: u64 = 1000;
 
-// SCRIPTS 8: what stops a script beside its wrong lines: a fault in it, and a command that ended UNFINISHED.
-pub const NO_FAULTS: u8 = 6;
-
-pub const UNFINISHED: u8 = 7;
-
-// The till end and its last word; the lines of the script so far, and what stopped it; the reads that are left to the try under way.
+// The till end and its last word; the lines of the script so far; the reads that are left to the try under way.
 #[derive(Clone, Copy)]
 pub struct Clerk {
     pub till: Till,
     pub word: Word,
-    pub phase: u8,
+    pub phase: Phase,
     pub lines: u64,
-    pub why: u8,
     pub reads: u64,
 }
 
@@ -48,13 +59,11 @@ pub struct Clerk {
 pub fn fresh() -> Clerk
     ensures { result ≡ fresh_clerk }
 {
-    let till = till::fresh();
     Clerk {
-        till,
+        till: till::fresh(),
         word: Word::Idle,
-        phase: PLAYS,
+        phase: Phase::Plays,
         lines: 0,
-        why: 0,
         reads: 0,
     }
 }
@@ -63,45 +72,42 @@ pub fn fresh() -> Clerk
 pub fn ended(clerk: Clerk) -> Clerk
     ensures { result ≡ end_of clerk }
 {
-    let mut after = clerk;
-    after.phase = ENDED;
-    after
+    Clerk {
+        phase: Phase::Ended,
+        ..clerk
+    }
 }
 
 // A line of the script is counted. A wrong one and a fault stop the script; the till end is told of a command, whose data is the front of `content`.
 pub fn play(
     clerk: Clerk,
-    act: Act,
+    act: Result<Act, Mistake>,
     content: &[u8],
     sent: &mut [u8; FRAME_ROOM],
     out: &mut [u8],
 ) -> Clerk
     ensures { record { clerk = result; frame = sent.new; buffer = out.new } ≡ line_of clerk act content.now sent.old out.old }
 {
-    let mut after = clerk;
-    after.lines = tally::one_more(clerk.lines);
+    let counted = Clerk {
+        lines: tally::one_more(clerk.lines),
+        ..clerk
+    };
     match act {
-        Act::Nothing => return after,
-        Act::Wrong(why) => return stopped(after, why),
-        Act::Happens {
-            answer: _,
-            attempt: _,
-            fault: _,
-        } => return stopped(after, NO_FAULTS),
-        Act::Command { code, count } => {
-            return begin(after, sent, code, front(content, count), out);
-        }
+        Ok(Act::Nothing) => counted,
+        Ok(Act::Command { code, count }) => begin(counted, sent, code, front(content, count), out),
+        Ok(Act::Happens { .. }) => stopped(counted, Stop::Fault),
+        Err(mistake) => stopped(counted, Stop::Wrong(mistake)),
     }
 }
 
 // Nothing comes behind what stops the script.
-fn stopped(clerk: Clerk, why: u8) -> Clerk
-    ensures { result ≡ halted clerk why }
+fn stopped(clerk: Clerk, stop: Stop) -> Clerk
+    ensures { result ≡ halted clerk stop }
 {
-    let mut after = clerk;
-    after.phase = STOPPED;
-    after.why = why;
-    after
+    Clerk {
+        phase: Phase::Stopped(stop),
+        ..clerk
+    }
 }
 
 // A command: its frame is to be written, or that it cannot be sent is told.
@@ -115,38 +121,30 @@ fn begin(
     ensures { record { clerk = result; frame = sent.new; buffer = out.new } ≡ begun clerk code content.now sent.old out.old }
 {
     let said = till::command(clerk.till, sent, code, content, out);
-    stands_behind(clerk, SENDS, said, clerk.reads)
+    stands_behind(clerk, Phase::Sends, said, clerk.reads)
 }
 
 // Behind a word of the till end.
-fn stands_behind(clerk: Clerk, waiting: u8, said: Said, reads: u64) -> Clerk
+fn stands_behind(clerk: Clerk, waiting: Phase, said: Said, reads: u64) -> Clerk
     ensures { result ≡ behind clerk waiting said reads }
 {
-    let till = said.till;
-    let word = said.word;
-    let phase = next(waiting, word);
     Clerk {
-        till,
-        word,
-        phase,
-        lines: clerk.lines,
-        why: clerk.why,
+        till: said.till,
+        word: said.word,
+        phase: next(waiting, said.word),
         reads,
+        ..clerk
     }
 }
 
 // Where the till end waits, it is the caller's own; Send again is a frame to write, and any other word is told.
-fn next(waiting: u8, word: Word) -> u8
+fn next(waiting: Phase, word: Word) -> Phase
     ensures { result ≡ next_of waiting word }
 {
     match word {
-        Word::Idle => TELLS,
         Word::Waiting(_) => waiting,
-        Word::SendAgain(_) => SENDS,
-        Word::Answered(_) => TELLS,
-        Word::Unfinished(_) => TELLS,
-        Word::TooShort => TELLS,
-        Word::NotSent => TELLS,
+        Word::SendAgain(_) => Phase::Sends,
+        _ => Phase::Tells,
     }
 }
 
@@ -154,10 +152,11 @@ fn next(waiting: u8, word: Word) -> u8
 pub fn written(clerk: Clerk) -> Clerk
     ensures { result ≡ written_by clerk }
 {
-    let mut after = clerk;
-    after.phase = HEARS;
-    after.reads = MOST_READS;
-    after
+    Clerk {
+        phase: Phase::Hears,
+        reads: MOST_READS,
+        ..clerk
+    }
 }
 
 // One read, and what it brought.
@@ -172,10 +171,10 @@ pub fn hear(
     ensures answer_after { answer.new ≡ (read_by clerk sent.now answer.old out.old came.now).answer }
     ensures out_after { out.new ≡ (read_by clerk sent.now answer.old out.old came.now).buffer }
 {
-    let left = basics::less(clerk.reads, 1);
+    let left = clerk.reads.saturating_sub(1);
     let last = (left == 0) | (came.len() == 0);
     let said = listen(clerk.till, last, sent, answer, came, out);
-    stands_behind(clerk, HEARS, said, left)
+    stands_behind(clerk, Phase::Hears, said, left)
 }
 
 // Where this is the last read of a try, and the till end waits still, no more comes in time.
@@ -199,25 +198,11 @@ fn listen(
 pub fn told(clerk: Clerk, keep: bool) -> Clerk
     ensures { result ≡ told_of keep clerk }
 {
-    let word = clerk.word;
-    if is_stopping(keep, word) {
-        return stopped(clerk, UNFINISHED);
+    if !keep & matches!(clerk.word, Word::Unfinished(_)) {
+        return stopped(clerk, Stop::Unfinished);
     }
-    let mut after = clerk;
-    after.phase = PLAYS;
-    after
-}
-
-fn is_stopping(keep: bool, word: Word) -> bool
-    ensures { result ≡ stops keep word }
-{
-    match word {
-        Word::Idle => false,
-        Word::Waiting(_) => false,
-        Word::SendAgain(_) => false,
-        Word::Answered(_) => false,
-        Word::Unfinished(_) => !keep,
-        Word::TooShort => false,
-        Word::NotSent => false,
+    Clerk {
+        phase: Phase::Plays,
+        ..clerk
     }
 }

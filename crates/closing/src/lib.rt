@@ -19,12 +19,10 @@ const ENDED: usize = 31;
 pub fn tell_books(buf: &mut [u8], at: usize, books: Books) -> usize
     ensures { Put buf.old at (books_text books) buf.new result }
 {
-    let figures = figures_of(books);
-    let opened = books.opened;
     let receipt = books.receipt;
     let stands = [receipt.lines, receipt.total, receipt.paid];
-    let next = sentence(buf, at, FIGURES, b"", &figures);
-    sentence(buf, next, open_row(opened), b"", &stands)
+    let next = sentence(buf, at, FIGURES, b"", &figures_of(books));
+    sentence(buf, next, open_row(books.opened), b"", &stands)
 }
 
 fn figures_of(books: Books) -> [u64; 19]

@@ -3,15 +3,17 @@ use mathlib.Core.Path.{◌≡◌, refl, sym, ap, ◌∙◌}
 use mathlib.Core.Bool.{Bool, true, false, cond, not, ◌&&◌}
 use mathlib.Core.List.{List, [], ◌∷◌}
 use mathlib.Core.Logic.{◌⊎◌, inl, inr}
-use Prim.Native.Nat.{ℕ, ◌<◌}
+use Prim.Native.Nat.{ℕ}
 use lib.Dec.{eqb}
 use borrow.Author.Tests.{eq-eqb, ne_eqb, eqb-true}
 use Rattle.text.specs.Parts.{has}
 use Rattle.display.specs.Display.{plain_of, can_show, shown_by}
 use Rattle.kinds.specs.declared.Command.{Command}
 use Rattle.kinds.specs.declared.Command.TheVariants.{ShowText}
-use Rattle.kinds.specs.declared.Parsed.{Parsed}
-use Rattle.kinds.specs.declared.Parsed.TheVariants.{Read, Syntax}
+use Rattle.kinds.specs.Fields.{Parsed}
+use Rattle.std.specs.Prelude.{Ok, Err}
+use Rattle.kinds.specs.declared.Unread.{Unread}
+use Rattle.kinds.specs.declared.Unread.TheVariants.{Syntax}
 use Rattle.command.specs.Commands.{form_of, not_marked, parsed_of}
 
 module _ (code : ℕ) (s : List ℕ) where
@@ -26,25 +28,25 @@ module _ (code : ℕ) (s : List ℕ) where
   unmarked e f = sym (ap (λ z. by z (has 0x10 s)) (ne_eqb code 100 e) ∙ ap (by false) f)
 
   -- 10h in data of its command's form
-  pub marked : (c : Command) → (code ≡ 100 → ⊥) → has 0x10 s ≡ true → form_of code s ≡ Read c → Syntax ≡ parsed_of code s
+  pub marked : (c : Command) → (code ≡ 100 → ⊥) → has 0x10 s ≡ true → form_of code s ≡ Ok c → Err Syntax ≡ parsed_of code s
   marked c e f r = sym (ap (λ z. by z (has 0x10 s)) (ne_eqb code 100 e) ∙ ap (by false) f ∙ ap not_marked r)
 
   -- in data of no form, and of no command, it is not looked for
-  pub formless : (p : Parsed) → p ≡ form_of code s → not_marked p ≡ p → p ≡ parsed_of code s
-  formless p e stays = e ∙ sym (go (not (eqb code 100) && has 0x10 s))
+  pub formless : (why : Unread) → form_of code s ≡ Err why → Err why ≡ parsed_of code s
+  formless why e = sym (go (not (eqb code 100) && has 0x10 s))
     where
-      go : (b : Bool) → cond b (not_marked (form_of code s)) (form_of code s) ≡ form_of code s
-      go true = ap not_marked (sym e) ∙ stays ∙ e
-      go false = refl
+      go : (b : Bool) → cond b (not_marked (form_of code s)) (form_of code s) ≡ Err why
+      go true = ap not_marked e
+      go false = e
 
 -- a command shows nothing, or it is 100 and is read
-pub shown_or_not : (code : ℕ) (s : List ℕ) → (shown_by code s ≡ []) ⊎ (parsed_of code s ≡ Read ShowText)
+pub shown_or_not : (code : ℕ) (s : List ℕ) → (shown_by code s ≡ []) ⊎ (parsed_of code s ≡ Ok ShowText)
 shown_or_not code s = go (eqb code 100) refl (can_show s) refl
   where
-    read : code ≡ 100 → can_show s ≡ true → parsed_of code s ≡ Read ShowText
-    read e can = ap (λ c. parsed_of c s) e ∙ ap (λ z. cond z (Read ShowText) Syntax) can
+    read : code ≡ 100 → can_show s ≡ true → parsed_of code s ≡ Ok ShowText
+    read e can = ap (λ c. parsed_of c s) e ∙ ap (λ z. cond z (Ok ShowText) (Err Syntax)) can
 
-    go : (is : Bool) → eqb code 100 ≡ is → (can : Bool) → can_show s ≡ can → (shown_by code s ≡ []) ⊎ (parsed_of code s ≡ Read ShowText)
+    go : (is : Bool) → eqb code 100 ≡ is → (can : Bool) → can_show s ≡ can → (shown_by code s ≡ []) ⊎ (parsed_of code s ≡ Ok ShowText)
     go false e can f = inl (ap (λ z. cond (z && can_show s) (plain_of s ∷ []) []) e)
     go true e false f = inl (ap (λ z. cond (z && can_show s) (plain_of s ∷ []) []) e ∙ ap (λ z. cond z (plain_of s ∷ []) []) f)
     go true e true f = inr (read (eqb-true code 100 e) f)

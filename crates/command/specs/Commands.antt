@@ -1,5 +1,5 @@
 -- PROTOCOL 5.1: seventeen kinds of command, each with its own form.
-use Rattle.std.specs.Prelude.{ℕ, cond, not, ◌&&◌, List, [], eqb}
+use Rattle.std.specs.Prelude.{ℕ, cond, not, ◌&&◌, List, [], eqb, Ok, Err}
 use Rattle.text.specs.Parts.{has}
 use Rattle.labels.specs.Texts.{only_line, first_line, second_line}
 use Rattle.kinds.specs.Plain.{bare_of, text_of, sums_of, closing_of, show_of}
@@ -8,8 +8,8 @@ use Rattle.kinds.specs.declared.operators.Third.TheVariants as third
 use Rattle.money.specs.Money.{sell_of, pay_of, drawer_of}
 use Rattle.money.specs.Subtotals.{subtotal_of}
 use Rattle.kinds.specs.declared.Command.TheVariants.{OpenText, CloseText, Close, Cancel, Status, Rates}
-use Rattle.kinds.specs.declared.Parsed.{Parsed}
-use Rattle.kinds.specs.declared.Parsed.TheVariants.{Read, Syntax, Unknown}
+use Rattle.kinds.specs.Fields.{Parsed}
+use Rattle.kinds.specs.declared.Unread.TheVariants.{Syntax, Unknown}
 
 -- PROTOCOL 5.1, 2.2: the code, then the data; an unknown command is 2 whatever its data
 abbrev pub form_of : ℕ → List ℕ → Parsed
@@ -31,13 +31,12 @@ form_of code s =
     (cond (eqb code 100) (show_of s)
     (cond (eqb code 101) (operators_of third.Password s)
     (cond (eqb code 102) (operators_of third.Name s)
-    Unknown))))))))))))))))
+    (Err Unknown)))))))))))))))))
 
 -- PROTOCOL 1.4, 5.17: 10h in the data of any known command but 100 is 1; an unknown one stays 2
 abbrev pub not_marked : Parsed → Parsed
-not_marked (Read c) = Syntax
-not_marked Syntax = Syntax
-not_marked Unknown = Unknown
+not_marked (Ok c) = Err Syntax
+not_marked (Err why) = Err why
 
 abbrev pub parsed_of : ℕ → List ℕ → Parsed
 parsed_of code s = cond (not (eqb code 100) && has 0x10 s) (not_marked (form_of code s)) (form_of code s)

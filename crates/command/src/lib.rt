@@ -6,30 +6,24 @@ ghost use Rattle.command.specs.Commands.{form_of, parsed_of, first_text, second_
 
 use display::{MARK, SHOW};
 use kinds::operators::Third;
-use kinds::{Command, Parsed, operators, plain};
+use kinds::{Command, Unread, operators, plain};
 
 // Any command: its kind with its fields; or 1, where the data is not of its form; or 2, where CMD is none of the seventeen. Only in data of some
 // form is 10h looked for: long data of an unknown command costs nothing here.
-pub fn parse(code: u8, bytes: &[u8]) -> Parsed
+pub fn parse(code: u8, bytes: &[u8]) -> Result<Command, Unread>
     ensures { result ≡ parsed_of code bytes.now }
 {
-    let parsed = form_of(code, bytes);
+    let command = form_of(code, bytes)?;
     if code == SHOW {
-        return parsed;
+        return Ok(command);
     }
-    match parsed {
-        Parsed::Read(_) => {
-            if text::find(bytes, MARK) == bytes.len() {
-                return parsed;
-            }
-            Parsed::Syntax
-        }
-        Parsed::Syntax => parsed,
-        Parsed::Unknown => parsed,
+    if text::find(bytes, MARK) < bytes.len() {
+        return Err(Unread::Syntax);
     }
+    Ok(command)
 }
 
-fn form_of(code: u8, bytes: &[u8]) -> Parsed
+fn form_of(code: u8, bytes: &[u8]) -> Result<Command, Unread>
     ensures { result ≡ form_of code bytes.now }
 {
     match code {
@@ -50,7 +44,7 @@ fn form_of(code: u8, bytes: &[u8]) -> Parsed
         100 => plain::show_text(bytes),
         101 => operators::read_fields(Third::Password, bytes),
         102 => operators::read_fields(Third::Name, bytes),
-        _ => Parsed::Unknown,
+        _ => Err(Unread::Unknown),
     }
 }
 

@@ -1,7 +1,6 @@
 -- PROTOCOL chapter 5: a command judged by its rule, and done where it has no reason against it.
-use Rattle.std.specs.Prelude.{ℕ, cond}
+use Rattle.std.specs.Prelude.{ℕ, cond, Option}
 use Rattle.kinds.specs.declared.Command.{Command}
-use Rattle.sheet.specs.declared.Match.{Match}
 use Rattle.sheet.specs.declared.Note.{Note}
 use Rattle.sheet.specs.declared.Note.TheVariants as note
 use Rattle.books.specs.declared.Books.{Books}
@@ -31,8 +30,8 @@ judged b r =
     (cond r.four (refused_with 4 b)
     (done_with r.after r.shows r.note)))
 
-abbrev pub deed_of : Books → Match → View → Deed
+abbrev pub deed_of : Books → Option ℕ → View → Deed
 deed_of b m v = judged b (rule_of b m v)
 
-abbrev pub carried_out : Books → Match → Command → Deed
+abbrev pub carried_out : Books → Option ℕ → Command → Deed
 carried_out b m c = deed_of b m (view_of c)

@@ -5,27 +5,28 @@ ghost use Rattle.rules.specs.declared.views.View.TheVariants.{Puts, Takes};
 ghost use Rattle.deeds.specs.Deeds.{deed_of};
 
 use crate::{Deed, finish, refuse};
-use books::{Books, Shown, parts};
-use rules::tests::{either, is_price, passes};
+use books::{Books, Drawer, Shown, parts};
+use rules::tests::{is_price, passes};
 
 // 70 with an amount: it is put into the drawer.
 pub fn put_in(books: Books, n: u64) -> Deed
     ensures { result ≡ deed_of books no_match (Puts n) }
 {
-    let opened = books.opened;
     let drawer = books.drawer;
     if !is_price(n) {
         return refuse(1, books);
     }
-    if parts::any_open(opened) {
+    if parts::any_open(books.opened) {
         return refuse(3, books);
     }
-    if either(passes(drawer.cash, n), passes(drawer.put, n)) {
+    if passes(drawer.cash, n) | passes(drawer.put, n) {
         return refuse(4, books);
     }
-    let mut next = drawer;
-    next.cash = drawer.cash + n;
-    next.put = drawer.put + n;
+    let next = Drawer {
+        cash: drawer.cash + n,
+        put: drawer.put + n,
+        ..drawer
+    };
     finish(parts::with_drawer(books, next), Shown::InDrawer)
 }
 
@@ -33,19 +34,20 @@ pub fn put_in(books: Books, n: u64) -> Deed
 pub fn take_out(books: Books, n: u64) -> Deed
     ensures { result ≡ deed_of books no_match (Takes n) }
 {
-    let opened = books.opened;
     let drawer = books.drawer;
     if !is_price(n) {
         return refuse(1, books);
     }
-    if either(parts::any_open(opened), drawer.cash < n) {
+    if parts::any_open(books.opened) | (drawer.cash < n) {
         return refuse(3, books);
     }
     if passes(drawer.taken, n) {
         return refuse(4, books);
     }
-    let mut next = drawer;
-    next.cash = drawer.cash - n;
-    next.taken = drawer.taken + n;
+    let next = Drawer {
+        cash: drawer.cash - n,
+        taken: drawer.taken + n,
+        ..drawer
+    };
     finish(parts::with_drawer(books, next), Shown::InDrawer)
 }

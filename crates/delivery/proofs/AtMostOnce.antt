@@ -1,5 +1,6 @@
 -- At most once: what is carried out is what is heard, repeats left out, whatever arrives; and where no try lacks only its last byte, the commands of which a
 -- try arrived whole.
+use Rattle.std.proofs.lemmas.Bool.{and_parts}
 use mathlib.Core.Path.{◌≡◌, refl, sym, ap, ◌∙◌, subst}
 use mathlib.Core.Bool.{Bool, true, false, cond, not, ◌&&◌, false≢true}
 use mathlib.Core.List.{List, [], ◌∷◌, ◌++◌, append_assoc, append-nil}
@@ -10,7 +11,6 @@ use lib.ListN.{length}
 use borrow.Author.Tests.{eqb-true, ne_eqb, not-true}
 use Rattle.wire.specs.Frame.{Message, frame, sendable}
 use Rattle.wire.specs.declared.Way.TheVariants.{ToDevice}
-use Rattle.wire.proofs.Suits.{both}
 use Rattle.reader.specs.Reading.{outside, Event, nothing, broken_frame, heard}
 use Rattle.reader.proofs.RoundTrip.{frame_size}
 use Rattle.line.specs.Turns.{Before, none, was, State, Carried, Turn, Session, switched_on, repeats, session}
@@ -40,7 +40,7 @@ new_behind_lem m answer (n ∷ ns) = ap (λ z. z ++ new_after n ns) (not_cond (e
 pub same_behind : (before : Before) (n : Message) (ns : List Message) → repeats before n ≡ true → new_behind before (n ∷ ns) ≡ new_behind before ns
 same_behind none n ns e = absurd (false≢true e)
 same_behind (was seq code answer) n ns e =
-    let two = both (eqb seq n.seq) (eqb code n.code) e in
+    let two = and_parts (eqb seq n.seq) (eqb code n.code) e in
     ap (λ t. cond t [] (n ∷ []) ++ new_after n ns) e
     ∙ new_behind_lem n answer ns
     ∙ (λ i. new_behind (was (sym (eqb-true seq n.seq two.0) i) (sym (eqb-true code n.code two.1) i) answer) ns)
@@ -125,7 +125,7 @@ module _ {B : Type 0} (carry : B → Message → Carried B) where
   tries-brought m can [] e b f = ((λ before store. refl), f)
   tries-brought m can (a ∷ rest) e b f =
       let sent = frame ToDevice m in
-      let two = both (may_arrive sent a) (all (may_arrive sent) rest) e in
+      let two = and_parts (may_arrive sent a) (all (may_arrive sent) rest) e in
       let mid = leaves ToDevice b m a in
       let others = tries-brought m can rest two.1 mid (try_read ToDevice m can a two.0 b f).fits in (
         brought-append b mid (tries_leave mid m rest) (arriving sent a) (tries_arriving sent rest) (brings ToDevice b m a) (tries_brought mid m rest)
@@ -138,8 +138,8 @@ module _ {B : Type 0} (carry : B → Message → Carried B) where
   all-brought (c ∷ cs) e b f =
       let m = c.command in
       let sent = frame ToDevice m in
-      let two = both (may_come c) (all_may_come cs) e in
-      let own = both (sendable ToDevice m) (all (may_arrive sent) c.tries) two.0 in
+      let two = and_parts (may_come c) (all_may_come cs) e in
+      let own = and_parts (sendable ToDevice m) (all (may_arrive sent) c.tries) two.0 in
       let first = tries-brought m own.0 c.tries own.1 b f in
       let mid = tries_leave b m c.tries in
       brought-append b mid (all_leave mid cs) (tries_arriving sent c.tries) (all_arriving cs) (tries_brought b m c.tries) (all_brought mid cs)
@@ -243,7 +243,7 @@ tries_whole : (m : Message) → sendable ToDevice m ≡ true → (tries : List A
     → (tries_heard b m tries ≡ wholes m tries) × LacksMore (tries_leave b m tries)
 tries_whole m can [] e b l = (refl, l)
 tries_whole m can (a ∷ rest) e b l =
-    let two = both (not (lacks_last m a)) (all (λ a. not (lacks_last m a)) rest) e in
+    let two = and_parts (not (lacks_last m a)) (all (λ a. not (lacks_last m a)) rest) e in
     let others = tries_whole m can rest two.1 (leaves ToDevice b m a) (try_lacks m can a two.0 b l) in (
       ap (λ z. z ++ tries_heard (leaves ToDevice b m a) m rest) (try_heard m a b l) ∙ ap (λ z. cond (is_whole a) (m ∷ []) [] ++ z) others.0,
       others.1,
@@ -253,9 +253,9 @@ all_whole : (cs : List Sent) → all_may_come cs ≡ true → none_lacks_last cs
 all_whole [] e f b l = refl
 all_whole (c ∷ cs) e f b l =
     let m = c.command in
-    let may = both (may_come c) (all_may_come cs) e in
-    let can = both (sendable ToDevice m) (all (may_arrive (frame ToDevice m)) c.tries) may.0 in
-    let two = both (all (λ a. not (lacks_last m a)) c.tries) (none_lacks_last cs) f in
+    let may = and_parts (may_come c) (all_may_come cs) e in
+    let can = and_parts (sendable ToDevice m) (all (may_arrive (frame ToDevice m)) c.tries) may.0 in
+    let two = and_parts (all (λ a. not (lacks_last m a)) c.tries) (none_lacks_last cs) f in
     let own = tries_whole m can.0 c.tries two.0 b l in
     ap (λ z. z ++ all_heard (tries_leave b m c.tries) cs) own.0
     ∙ ap (λ z. wholes m c.tries ++ z) (all_whole cs may.1 two.1 (tries_leave b m c.tries) own.1)
@@ -298,7 +298,7 @@ whole_new (c ∷ cs) before n e = go (any is_whole c.tries) refl n e (whole_new 
         → ((last : Before) → New last (arrived_whole cs) → neighbours_differ (arrived_whole cs) ≡ true → new_behind last (all_wholes cs) ≡ commands (arrived_whole cs))
         → new_behind before (wholes m c.tries ++ all_wholes cs) ≡ commands (here t)
     go true w n e rest =
-        let two = both (differs_from m (arrived_whole cs)) (neighbours_differ (arrived_whole cs)) e in
+        let two = and_parts (differs_from m (arrived_whole cs)) (neighbours_differ (arrived_whole cs)) e in
         first_new before m n c.tries (all_wholes cs)
         ∙ ap (λ t. cond t (m ∷ new_after m (all_wholes cs)) (new_behind before (all_wholes cs))) w
         ∙ ap (λ z. m ∷ z) (new_behind_lem m [] (all_wholes cs) ∙ rest (was m.seq m.code []) (new_next m [] (arrived_whole cs) two.0) two.1)

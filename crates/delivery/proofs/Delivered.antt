@@ -1,4 +1,5 @@
 -- The theorem of demand 3: the list that was sent is the list that is carried out, each command once and in order; and what each try brings.
+use Rattle.std.proofs.lemmas.Bool.{and_parts}
 use mathlib.Core.Path.{◌≡◌, refl, sym, ap, ◌∙◌, subst}
 use mathlib.Core.Bool.{Bool, true, false, cond, not, ◌&&◌, ◌||◌, or-true, or-false, false≢true}
 use mathlib.Core.Logic.{◌⊎◌, ⊎_elim, inl, inr}
@@ -9,7 +10,6 @@ use lib.ListN.{length}
 use borrow.Author.Tests.{eq-eqb, not-true}
 use Rattle.wire.specs.Frame.{Message, frame, sendable}
 use Rattle.wire.specs.declared.Way.TheVariants.{ToDevice}
-use Rattle.wire.proofs.Suits.{both}
 use Rattle.reader.specs.Reading.{Event, nothing, broken_frame, heard, run}
 use Rattle.line.specs.Turns.{Before, none, was, State, Carried, Turn, Session, switched_on, repeats, last_answer, session}
 use Rattle.tries.specs.Tries.{Arrival, whole, replaced, cut, may_arrive, arriving, Begun, clear, begun, leaves, start_brings, lost_start_brings, damage_brings, brings}
@@ -214,7 +214,7 @@ module _ {B : Type 0} (carry : B → Message → Carried B) where
     tries-bring [] e b f false h some = absurd (false≢true some)
     tries-bring (a ∷ rest) e b f done h some =
         let sent = frame ToDevice m in
-        let two = both (may_arrive sent a) (all (may_arrive sent) rest) e in
+        let two = and_parts (may_arrive sent a) (all (may_arrive sent) rest) e in
         let brought : List Event = brings ToDevice b m a in
         let now = one-try a two.0 b f done h in
         let next = leaves ToDevice b m a in
@@ -265,10 +265,10 @@ module _ {B : Type 0} (carry : B → Message → Carried B) where
   delivered-from (c ∷ cs) e before new b f l store =
       let m = c.command in
       let sent = frame ToDevice m in
-      let two = both (tried c && differs_from m cs) (delivery cs) e in
-      let own = both (tried c) (differs_from m cs) two.0 in
-      let may = both (sendable ToDevice m && all (may_arrive sent) c.tries) (any is_whole c.tries) own.0 in
-      let can = both (sendable ToDevice m) (all (may_arrive sent) c.tries) may.0 in
+      let two = and_parts (tried c && differs_from m cs) (delivery cs) e in
+      let own = and_parts (tried c) (differs_from m cs) two.0 in
+      let may = and_parts (sendable ToDevice m && all (may_arrive sent) c.tries) (any is_whole c.tries) own.0 in
+      let can = and_parts (sendable ToDevice m) (all (may_arrive sent) c.tries) may.0 in
       let o = tries-bring m can.0 before new store c.tries can.1 b f false (left-ours c cs can.0 before new store b l) may.1 in
       let k = carry store m in
       let next = tries_leave b m c.tries in

@@ -11,7 +11,7 @@ ghost use Rattle.desk.specs.Desk.{fresh_desk, try_of, behind, told, line_of, end
 use faults::Faults;
 use line::Call;
 use reader::FRAME_ROOM;
-use script::Act;
+use script::{Act, Mistake};
 use sentences::front;
 use tally::Tally;
 use till::{Said, Till, Word};
@@ -20,24 +20,23 @@ use wire::ANSWER_ROOM;
 // More than the device can give back on one try.
 pub const BACK_ROOM: usize = 1024;
 
-// What comes next: a line of the script, a try of its command, or what the till end makes of what came back.
-pub const PLAYS: u8 = 0;
-
-pub const SENDS: u8 = 1;
-
-pub const HEARS: u8 = 2;
-
-// The script is at its end, or a line of it is wrong.
-pub const ENDED: u8 = 3;
-
-pub const STOPPED: u8 = 4;
+// What comes next: a line of the script, a try of its command, or what the till end makes of what came back; or the script is at its end, or a
+// line of it is wrong.
+#[derive(Clone, Copy, PartialEq, Eq)]
+pub enum Phase {
+    Plays,
+    Sends,
+    Hears,
+    Ended,
+    Stopped,
+}
 
 #[derive(Clone, Copy)]
 pub struct Desk {
     pub till: Till,
     pub faults: Faults,
     pub tally: Tally,
-    pub phase: u8,
+    pub phase: Phase,
     pub lines: u64,
     // The try under way, the bytes of its frame, how many arrived, how many of these the device heard, and how many it gave back.
     pub attempt: u8,
@@ -57,14 +56,11 @@ pub struct Told {
 pub fn fresh() -> Desk
     ensures { result ≡ fresh_desk }
 {
-    let till = till::fresh();
-    let faults = faults::none();
-    let tally = tally::none();
     Desk {
-        till,
-        faults,
-        tally,
-        phase: PLAYS,
+        till: till::fresh(),
+        faults: faults::none(),
+        tally: tally::none(),
+        phase: Phase::Plays,
         lines: 0,
         attempt: 1,
         count: 0,
@@ -78,31 +74,37 @@ pub fn fresh() -> Desk
 pub fn ended(desk: Desk) -> Desk
     ensures { result ≡ end_of desk }
 {
-    let mut after = desk;
-    after.phase = ENDED;
-    after
+    Desk {
+        phase: Phase::Ended,
+        ..desk
+    }
 }
 
 // A line of the script is counted. A wrong one stops the script, and a fault waits for the next command; a command is for `sent_to`.
-pub fn read(desk: Desk, act: Act) -> Desk
+pub fn read(desk: Desk, act: Result<Act, Mistake>) -> Desk
     ensures { result ≡ line_of desk act }
 {
-    let mut after = desk;
-    after.lines = tally::one_more(desk.lines);
+    let counted = Desk {
+        lines: tally::one_more(desk.lines),
+        ..desk
+    };
     match act {
-        Act::Nothing => {}
-        Act::Wrong(_) => after.phase = STOPPED,
-        Act::Happens {
-            answer,
-            attempt,
-            fault,
-        } => {
-            let faults = faults::with_fault(desk.faults, answer, attempt, fault);
-            after.faults = faults;
-        }
-        Act::Command { code: _, count: _ } => {}
+        Ok(Act::Nothing | Act::Command { .. }) => counted,
+        Ok(
+            Act::Happens {
+                answer,
+                attempt,
+                fault,
+            },
+        ) => Desk {
+            faults: faults::with_fault(desk.faults, answer, attempt, fault),
+            ..counted
+        },
+        Err(_) => Desk {
+            phase: Phase::Stopped,
+            ..counted
+        },
     }
-    after
 }
 
 // The till end is told of a command.
@@ -118,46 +120,48 @@ pub fn sent_to(
     ensures out_after { out.new ≡ sets out.old 0 (turn_of desk.till sent.old [] out.old (command code content.now)).puts }
 {
     let said = till::command(desk.till, sent, code, content, out);
-    let word = said.word;
-    let after = stands_behind(desk, said);
-    Told { desk: after, word }
+    told_of(desk, said)
+}
+
+fn told_of(desk: Desk, said: Said) -> Told
+    ensures { result ≡ told desk said }
+{
+    Told {
+        desk: stands_behind(desk, said),
+        word: said.word,
+    }
 }
 
 // A word with a frame is a try more; any other ends the command: it is counted, and the line does nothing more to tries.
 fn stands_behind(desk: Desk, said: Said) -> Desk
     ensures { result ≡ behind desk said.till said.word }
 {
-    let till = said.till;
-    let word = said.word;
-    let attempt = next_try(desk.attempt, word);
-    let mut after = desk;
-    after.till = till;
-    if attempt == 0 {
-        let faults = faults::none();
-        let tally = tally::ended(desk.tally, word);
-        after.faults = faults;
-        after.tally = tally;
-        after.phase = PLAYS;
-        return after;
+    let Some(attempt) = next_try(desk.attempt, said.word) else {
+        return Desk {
+            till: said.till,
+            faults: faults::none(),
+            tally: tally::ended(desk.tally, said.word),
+            phase: Phase::Plays,
+            ..desk
+        };
+    };
+    Desk {
+        till: said.till,
+        phase: Phase::Sends,
+        attempt,
+        count: till::count(said.word),
+        ..desk
     }
-    after.phase = SENDS;
-    after.attempt = attempt;
-    after.count = till::count(word);
-    after
 }
 
-// The try that a word hands out, the first or the one behind this; or 0.
-fn next_try(attempt: u8, word: Word) -> u8
+// The try that a word hands out, the first or the one behind this.
+fn next_try(attempt: u8, word: Word) -> Option<u8>
     ensures { result ≡ try_of attempt word }
 {
     match word {
-        Word::Idle => 0,
-        Word::Waiting(_) => 1,
-        Word::SendAgain(_) => attempt % till::MOST_TRIES + 1,
-        Word::Answered(_) => 0,
-        Word::Unfinished(_) => 0,
-        Word::TooShort => 0,
-        Word::NotSent => 0,
+        Word::Waiting(_) => Some(1),
+        Word::SendAgain(_) => Some(attempt % till::MOST_TRIES + 1),
+        _ => None,
     }
 }
 
@@ -168,12 +172,13 @@ pub fn on_its_way(desk: Desk, out: &[u8; FRAME_ROOM], arrived: &mut [u8; FRAME_R
 {
     let fault = faults::fault_of(desk.faults, false, desk.attempt);
     let got = faults::arrive(front(out, desk.count), fault, arrived);
-    let mut after = desk;
-    after.phase = HEARS;
-    after.got = got;
-    after.place = 0;
-    after.given = 0;
-    after
+    Desk {
+        phase: Phase::Hears,
+        got,
+        place: 0,
+        given: 0,
+        ..desk
+    }
 }
 
 // What one call of the device brought goes behind what the ones before gave back.
@@ -188,13 +193,12 @@ pub fn heard(
     ensures value { result ≡ heard_by desk call taken (take count given.now) }
     ensures back_after { back.new ≡ sets back.old desk.given (take count given.now) }
 {
-    let next = sentences::put(back, desk.given, front(given, count));
-    let mut after = desk;
-    let tally = tally::called(desk.tally, call);
-    after.tally = tally;
-    after.place = lines::sum(desk.place, taken);
-    after.given = next;
-    after
+    Desk {
+        tally: tally::called(desk.tally, call),
+        place: desk.place.saturating_add(taken),
+        given: sentences::put(back, desk.given, front(given, count)),
+        ..desk
+    }
 }
 
 // What came back on a try is heard by the till end.
@@ -213,7 +217,5 @@ pub fn brought_back(
     let fault = faults::fault_of(desk.faults, true, desk.attempt);
     let got = faults::arrive(front(back, desk.given), fault, &mut came);
     let said = exchange::hear_back(desk.till, sent, answer, front(&came, got), out);
-    let word = said.word;
-    let after = stands_behind(desk, said);
-    Told { desk: after, word }
+    told_of(desk, said)
 }

@@ -1,9 +1,9 @@
 // A device told of a list of events, and what it gives back on each. The crate `events` says what an event is and what it lends.
 #![tactic(auto)]
 
-use display::{Display, MOST_SHOWN};
+use display::MOST_SHOWN;
 use events::{DEVICE_ROOM, End, Lent};
-use feeding::Fed;
+use feeding::Unfed;
 use kept::{Kept, Next};
 use reader::FRAME_ROOM;
 use sheet::MOST_LINES;
@@ -26,17 +26,13 @@ fn main(rt: HostRuntime) {
     let mut buf = [0u8; BUF_ROOM];
     let mut display = [0u8; MOST_SHOWN];
     let mut kept = kept::fresh_kept();
-    let mut events: u64 = 0;
-    while events < 0xFFFFFFFFFFFFFFFF {
-        let fed = feeding::next_event(rt.stdin(), to.errors, End::Device, &mut event);
-        let Fed::Whole(_) = fed else {
-            ended(to, fed, events);
+    for events in 0..u64::MAX {
+        if let Err(why) = feeding::next_event(rt.stdin(), to.errors, End::Device, &mut event) {
+            ended(to, why, events);
             return;
-        };
+        }
         if events::switches_on(event) {
-            let switched = kept::switch_on(kept);
-            kept = switched;
-            events += 1;
+            kept = kept::switch_on(kept);
             continue;
         }
         let lent = events::lent_by(event, ANSWER_ROOM, MOST_LINES, MOST_SHOWN);
@@ -46,17 +42,15 @@ fn main(rt: HostRuntime) {
             unwritten(to, why);
             return;
         }
-        let after = next.kept;
-        kept = after;
-        events += 1;
+        kept = next.kept;
     }
 }
 
 // Why there are no more events: at the end of the input nothing is said.
-fn ended(to: Outlets, fed: Fed, events: u64) {
-    let Fed::Broken = fed else {
+fn ended(to: Outlets, why: Unfed, events: u64) {
+    if why == Unfed::Ended {
         return;
-    };
+    }
     system::write(&to.errors, b"error: after ");
     system::number(&to.errors, events);
     system::write(
@@ -79,8 +73,8 @@ fn tell(
     display: &mut [u8],
 ) -> Next {
     let bytes = [lent.byte];
-    let room = basics::least_size(lent.room, buf.len());
-    let shown = basics::least_size(lent.shown, display.len());
+    let room = lent.room.min(buf.len());
+    let shown = lent.shown.min(display.len());
     lending::hear_lent(
         kept,
         frame,
@@ -99,7 +93,7 @@ fn told(
     number: u64,
     count: usize,
     buf: &[u8],
-    shows: Display,
+    shows: Option<usize>,
     display: &[u8],
 ) -> Result<()> {
     say(to, number, count, buf)?;
@@ -117,13 +111,13 @@ fn say(to: Outlets, number: u64, count: usize, buf: &[u8]) -> Result<()> {
 }
 
 // 00h, where no text is shown; else 01h, the number of its bytes, and the text.
-fn show(to: Outlets, shows: Display, display: &[u8]) -> Result<()> {
+fn show(to: Outlets, shows: Option<usize>, display: &[u8]) -> Result<()> {
     match shows {
-        Display::Stays => {
+        None => {
             let none = [0u8];
             to.output.write_all(&none)
         }
-        Display::Shows(n) => show_text(to, basics::least_size(n, display.len()), display),
+        Some(n) => show_text(to, n.min(display.len()), display),
     }
 }
 

@@ -1,10 +1,10 @@
 -- PROTOCOL 5.17: texts for the display, worked out by the definitions.
+use Rattle.std.specs.Prelude.{Some, None}
 use mathlib.Core.Path.{◌≡◌, refl}
 use mathlib.Core.Bool.{true, false}
 use mathlib.Core.List.{[], ◌∷◌}
 use lib.ListN.{length, replicate}
 use Rattle.display.specs.Display.{can_show, shown_by, display_of, data_of}
-use Rattle.display.specs.declared.Display.TheVariants.{Stays, Shows}
 
 -- 1Bh 4Bh 00h travels as 10h 5Bh 4Bh 10h 40h
 paper : shown_by 100 (0x10 ∷ 0x5B ∷ 0x4B ∷ 0x10 ∷ 0x40 ∷ []) ≡ (0x1B ∷ 0x4B ∷ 0x00 ∷ []) ∷ []
@@ -17,10 +17,10 @@ paper_back = refl
 empty : shown_by 100 [] ≡ [] ∷ []
 empty = refl
 
-empty_told : display_of (shown_by 100 []) ≡ Shows 0
+empty_told : display_of (shown_by 100 []) ≡ Some 0
 empty_told = refl
 
-none_told : display_of (shown_by 101 []) ≡ Stays
+none_told : display_of (shown_by 101 []) ≡ None
 none_told = refl
 
 -- only 100 shows a text

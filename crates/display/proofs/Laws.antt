@@ -1,4 +1,5 @@
 -- PROTOCOL 5.17: every text of up to 40 bytes has data that stands for it, and what a command shows is read back from its result and the lent buffer.
+use Rattle.std.proofs.lemmas.Bool.{and_parts, and_from}
 use mathlib.Core.Path.{◌≡◌, refl, sym, ap, ◌∙◌}
 use mathlib.Core.Bool.{Bool, true, false, cond, ◌&&◌}
 use mathlib.Core.List.{List, [], ◌∷◌}
@@ -8,7 +9,6 @@ use lib.Dec.{leb, ltb, eqb}
 use lib.ListN.{length, take, drop}
 use lib.Seq.{sets, sets-eq, take-append_seam}
 use borrow.Author.Tests.{ltb-true, ltb-false, leb-true, le-leb, ne_eqb}
-use Rattle.basics.proofs.Tests.{both, and_true}
 use Rattle.wire.specs.Bytes.{every, within, may_stand}
 use Rattle.wire.specs.declared.Role.TheVariants.{Data}
 use Rattle.wire.proofs.Suits.{data_byte}
@@ -48,13 +48,13 @@ high_stands b h g = sym (data_byte b (omega arith) (λ q. omega arith) (λ q. om
 data_stands : (t : List ℕ) → every (within 0x00 0xFF) t ≡ true → every (may_stand Data) (data_of t) ≡ true
 data_stands [] h = refl
 data_stands (b ∷ t) h =
-    let (byte, bytes) = both (within 0x00 0xFF b) (every (within 0x00 0xFF) t) h in
-    go (leb-true b 0xFF (both (leb 0x00 b) (leb b 0xFF) byte).1) (data_stands t bytes) (ltb b 0x20) refl
+    let (byte, bytes) = and_parts (within 0x00 0xFF b) (every (within 0x00 0xFF) t) h in
+    go (leb-true b 0xFF (and_parts (leb 0x00 b) (leb b 0xFF) byte).1) (data_stands t bytes) (ltb b 0x20) refl
   where
     go : b ≤ 0xFF → every (may_stand Data) (data_of t) ≡ true → (low : Bool) → ltb b 0x20 ≡ low
         → every (may_stand Data) (cond low (0x10 ∷ (b + 0x40) ∷ data_of t) (b ∷ data_of t)) ≡ true
-    go byte rest true e = let less = ltb-true b 0x20 e in and_true (may_stand Data (b + 0x40)) (every (may_stand Data) (data_of t)) (high_stands (b + 0x40) (omega arith) (omega arith)) rest
-    go byte rest false e = and_true (may_stand Data b) (every (may_stand Data) (data_of t)) (high_stands b (ltb-false b 0x20 e) byte) rest
+    go byte rest true e = let less = ltb-true b 0x20 e in and_from (may_stand Data (b + 0x40)) (every (may_stand Data) (data_of t)) (high_stands (b + 0x40) (omega arith) (omega arith)) rest
+    go byte rest false e = and_from (may_stand Data b) (every (may_stand Data) (data_of t)) (high_stands b (ltb-false b 0x20 e) byte) rest
 
 -- so every text of up to 40 bytes can be shown: there is data for it, which can be sent
 pub every_text_has_data : (t : List ℕ) → length t ≤ 40 → every (within 0x00 0xFF) t ≡ true
@@ -72,8 +72,8 @@ few_shown code s t ts = go (eqb code 100 && can_show s) refl
   where
     go : (shows : Bool) → (eqb code 100 && can_show s) ≡ shows → cond shows (plain_of s ∷ []) [] ≡ t ∷ ts → (length t ≤ 40) × (ts ≡ [])
     go true e q =
-        let can = (both (eqb code 100) (can_show s) e).1 in
-        let few = leb-true (length (plain_of s)) 40 (both (marks_suit false s) (leb (length (plain_of s)) 40) can).1 in
+        let can = (and_parts (eqb code 100) (can_show s) e).1 in
+        let few = leb-true (length (plain_of s)) 40 (and_parts (marks_suit false s) (leb (length (plain_of s)) 40) can).1 in
         let same : plain_of s ≡ t = cc in
         (omega (arith, ap length same), (cc))
     go false e q = let z : ◌≡◌ {A = ℕ} 0 1 = cc in absurd (omega arith)

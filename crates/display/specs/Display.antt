@@ -1,9 +1,7 @@
 -- PROTOCOL 5.17: the text that 100 sends to the customer display.
-use Rattle.std.specs.Prelude.{ℕ, ◌+◌, ◌-◌, Bool, true, false, not, cond, ◌&&◌, List, [], ◌∷◌, leb, ltb, eqb, length, take}
+use Rattle.std.specs.Prelude.{ℕ, ◌+◌, ◌-◌, Bool, true, false, not, cond, ◌&&◌, List, [], ◌∷◌, leb, ltb, eqb, length, take, Option, Some, None}
 use Rattle.std.proofs.lemmas.List.Edits.{sets}
 use Rattle.text.specs.Parts.{within}
-use Rattle.display.specs.declared.Display.{Display}
-use Rattle.display.specs.declared.Display.TheVariants.{Stays, Shows}
 
 -- PROTOCOL 5.17: the plain text that data stands for: 10h and a byte are the control character 40h below that byte, every other byte is itself. `marked` says
 -- that 10h stood before
@@ -30,18 +28,18 @@ abbrev pub shown_by : (code : ℕ) → List ℕ → List (List ℕ)
 shown_by code s = cond (eqb code 100 && can_show s) (plain_of s ∷ []) []
 
 -- PROTOCOL 2.5: what the display is told of them, and its lent buffer then: no text, or a text at its front, of so many bytes; the bytes behind it stay
-abbrev pub display_of : List (List ℕ) → Display
-display_of [] = Stays
-display_of (t ∷ ts) = Shows (length t)
+abbrev pub display_of : List (List ℕ) → Option ℕ
+display_of [] = None
+display_of (t ∷ ts) = Some (length t)
 
 abbrev pub displayed : List ℕ → List (List ℕ) → List ℕ
 displayed buffer [] = buffer
 displayed buffer (t ∷ ts) = sets buffer 0 t
 
 -- the same read back: no text, or one, which can have no bytes
-abbrev pub texts_in : Display → List ℕ → List (List ℕ)
-texts_in Stays buffer = []
-texts_in (Shows n) buffer = take n buffer ∷ []
+abbrev pub texts_in : Option ℕ → List ℕ → List (List ℕ)
+texts_in None buffer = []
+texts_in (Some n) buffer = take n buffer ∷ []
 
 -- PROTOCOL 5.17: the way back, from a plain text to data that stands for it: a control character is sent as 10h and itself plus 40h
 abbrev pub data_of : List ℕ → List ℕ

@@ -14,25 +14,18 @@ pub const SHOW: u8 = 100;
 // Before a byte that stands for a control character.
 pub const MARK: u8 = 0x10;
 
-// What the display is told: nothing, or that the text which is at the front of the lent buffer, with so many bytes, is to be shown.
-#[derive(Clone, Copy)]
-pub enum Display {
-    Stays,
-    Shows(usize),
-}
-
 // A command's text into the display's buffer. Only 100 has one, and only where it can be shown; the buffer stays otherwise.
-pub fn show(code: u8, s: &[u8], buf: &mut [u8]) -> Display
+pub fn show(code: u8, s: &[u8], buf: &mut [u8]) -> Option<usize>
     ensures value { result ≡ display_of (shown_by code s.now) }
     ensures buf_after { buf.new ≡ displayed buf.old (shown_by code s.now) }
 {
     if code != SHOW {
-        return Display::Stays;
+        return None;
     }
     if !can_show(s) {
-        return Display::Stays;
+        return None;
     }
-    Display::Shows(put_plain(buf, s))
+    Some(put_plain(buf, s))
 }
 
 // Whether 40h to 5Fh is behind each 10h, and the plain bytes are 40 at most.
@@ -41,9 +34,7 @@ pub fn can_show(s: &[u8]) -> bool
 {
     let mut marked = false;
     let mut count: usize = 0;
-    let mut i = 0;
-    while i < s.len() {
-        let b = s[i];
+    for &b in s {
         if marked & !((0x40 <= b) & (b <= 0x5F)) {
             return false;
         }
@@ -51,7 +42,6 @@ pub fn can_show(s: &[u8]) -> bool
         if !marked {
             count += 1;
         }
-        i += 1;
     }
     !marked & (count <= MOST_SHOWN)
 }
@@ -63,16 +53,13 @@ fn put_plain(buf: &mut [u8], s: &[u8]) -> usize
 {
     let mut marked = false;
     let mut count = 0;
-    let mut i = 0;
-    while i < s.len() {
-        let b = s[i];
+    for &b in s {
         let mark = is_mark(marked, b);
         if !mark {
             text::put_byte(buf, count, plain_byte(marked, b));
             count += 1;
         }
         marked = mark;
-        i += 1;
     }
     count
 }
@@ -81,21 +68,12 @@ fn put_plain(buf: &mut [u8], s: &[u8]) -> usize
 fn is_mark(marked: bool, b: u8) -> bool
     ensures { result ≡ (not marked && eqb b 0x10) }
 {
-    if marked {
-        return false;
-    }
-    b == MARK
+    !marked & (b == MARK)
 }
 
 // The byte that one stands for.
 fn plain_byte(marked: bool, b: u8) -> u8
     ensures { result ≡ cond marked (b - 0x40) b }
 {
-    if !marked {
-        return b;
-    }
-    if b < 0x40 {
-        return 0;
-    }
-    b - 0x40
+    if marked { b.saturating_sub(0x40) } else { b }
 }

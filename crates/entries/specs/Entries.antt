@@ -1,11 +1,9 @@
 -- EXPLAIN 2: a line is a label and a value; in a page it is a row of a table.
-use Rattle.std.specs.Prelude.{ℕ, Bool, cond, List, [], ◌∷◌, ◌++◌, eqb, length}
+use Rattle.std.specs.Prelude.{ℕ, Bool, Option, Some, None, cond, List, [], ◌∷◌, ◌++◌, eqb, length}
 use Rattle.letters.specs.Letters.{bytes}
 use Rattle.sentences.specs.Filled.{filled}
-use Rattle.items.specs.Items.{is_none}
 use Rattle.items.specs.declared.Label.{Label}
 use Rattle.items.specs.declared.Item.{Item}
-use Rattle.items.specs.declared.Four.{Four}
 use Rattle.captions.specs.Captions.{label_word}
 use Rattle.pages.specs.Pages.{each, hex_of, shown_as, value_text, opened, closed}
 
@@ -14,11 +12,13 @@ abbrev pub line_text : (html : Bool) → (label told : List ℕ) → List ℕ
 line_text html label told = opened html label ++ (told ++ closed html)
 
 -- EXPLAIN 2: a value with its label; no line where there is none
-abbrev pub item_text : (html : Bool) → Item → List ℕ
-item_text html item = cond (is_none item.value) [] (line_text html (label_word item.label) (bytes " " ++ value_text item.value))
+abbrev pub item_text : (html : Bool) → Option Item → List ℕ
+item_text html None = []
+item_text html (Some item) = line_text html (label_word item.label) (bytes " " ++ value_text item.value)
 
-abbrev pub four_text : (html : Bool) → Four → List ℕ
-four_text html four = item_text html four.first ++ item_text html four.second ++ item_text html four.third ++ item_text html four.fourth
+abbrev pub four_text : (html : Bool) → List (Option Item) → List ℕ
+four_text html [] = []
+four_text html (line ∷ lines) = item_text html line ++ four_text html lines
 
 -- EXPLAIN 2: bytes are hexadecimal: some, more of them, and the last
 abbrev pub bytes_text : (html : Bool) → Label → (first some last : List ℕ) → List ℕ

@@ -13,28 +13,23 @@ use items::{Four, Item, Label};
 use pages::{put_close, put_hexes, put_labelled, put_open};
 use sentences::put;
 
-// A value with its label; nothing where there is none.
-pub fn put_item(buf: &mut [u8], at: usize, html: bool, item: Item) -> usize
+// A value with its label; nothing where there is no line.
+pub fn put_item(buf: &mut [u8], at: usize, html: bool, item: Option<Item>) -> usize
     ensures { Put buf.old at (item_text html item) buf.new result }
 {
-    let value = item.value;
-    if items::is_none(value) {
+    let Some(item) = item else {
         return put(buf, at, b"");
-    }
-    let label = item.label;
-    let told = put_labelled(buf, at, html, label);
+    };
+    let told = put_labelled(buf, at, html, item.label);
     let next = put(buf, told, b" ");
-    let end = pages::put_value(buf, next, value);
+    let end = pages::put_value(buf, next, item.value);
     put_close(buf, end, html)
 }
 
 pub fn put_four(buf: &mut [u8], at: usize, html: bool, lines: Four) -> usize
     ensures { Put buf.old at (four_text html lines) buf.new result }
 {
-    let first = lines.first;
-    let second = lines.second;
-    let third = lines.third;
-    let fourth = lines.fourth;
+    let [first, second, third, fourth] = lines;
     let one = put_item(buf, at, html, first);
     let two = put_item(buf, one, html, second);
     let three = put_item(buf, two, html, third);

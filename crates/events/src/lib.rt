@@ -26,8 +26,8 @@ pub struct Lent {
     pub byte: u8,
 }
 
-// How many bytes an event has, as far as these first ones tell: as many as there are is a whole event, 0 is none.
-pub fn length_of(end: End, event: &[u8]) -> usize
+// How many bytes an event has, as far as these first ones tell: as many as there are is a whole event. None is no event.
+pub fn length_of(end: End, event: &[u8]) -> Option<usize>
     ensures { result ≡ event_of end event.now }
 {
     match end {
@@ -36,50 +36,27 @@ pub fn length_of(end: End, event: &[u8]) -> usize
     }
 }
 
-fn of_device(event: &[u8]) -> usize
+fn of_device(event: &[u8]) -> Option<usize>
     ensures { result ≡ device_event event.now }
 {
-    let n = event.len();
-    if n < 1 {
-        return 1;
+    match event {
+        [] | [b'O', ..] => Some(1),
+        [_] | [b'B', ..] => Some(2),
+        [b'S', 0..=2, ..] => Some(DEVICE_ROOM),
+        _ => None,
     }
-    let kind = event[0];
-    if kind == b'O' {
-        return 1;
-    }
-    if n < 2 {
-        return 2;
-    }
-    if kind == b'B' {
-        return 2;
-    }
-    if (kind == b'S') & (event[1] <= 2) {
-        return DEVICE_ROOM;
-    }
-    0
 }
 
-fn of_till(event: &[u8]) -> usize
+fn of_till(event: &[u8]) -> Option<usize>
     ensures { result ≡ till_event event.now }
 {
-    let n = event.len();
-    if n < 2 {
-        return n + 1;
+    match event {
+        [] => Some(1),
+        [_] | [_, b'T', ..] => Some(2),
+        [_, b'B', ..] | [_, b'C'] => Some(3),
+        [_, b'C', n, ..] => Some(usize::from(*n) + 4),
+        _ => None,
     }
-    let kind = event[1];
-    if kind == b'T' {
-        return 2;
-    }
-    if kind == b'B' {
-        return 3;
-    }
-    if kind != b'C' {
-        return 0;
-    }
-    if n < 3 {
-        return 3;
-    }
-    (event[2] as usize) + 4
 }
 
 // How much of the buffer a till end's event lends: its first byte says.
@@ -87,26 +64,21 @@ pub fn room_in(event: &[u8]) -> usize
     ensures value { result ≡ get_or event.now 0 0 }
     ensures upper_bound { result < 256 }
 {
-    if event.len() == 0 {
-        return 0;
-    }
-    event[0] as usize
+    event.first().map_or(0, |&lent| usize::from(lent))
 }
 
 // Whether a device's event is its switching on; any other has a byte.
 pub fn switches_on(event: [u8; DEVICE_ROOM]) -> bool
     ensures { result ≡ switches_on event }
 {
-    let kind = event[0];
-    kind == b'O'
+    event[0] == b'O'
 }
 
 // What a device's event lends, of all the bytes and lines that can be lent. Behind a short event the array holds anything.
 pub fn lent_by(event: [u8; DEVICE_ROOM], room: usize, lines: usize, shown: usize) -> Lent
     ensures { result ≡ lent_by event room lines shown }
 {
-    let kind = event[0];
-    if kind == b'B' {
+    if event[0] == b'B' {
         return Lent {
             room,
             lines,
@@ -128,15 +100,12 @@ pub fn lent_by(event: [u8; DEVICE_ROOM], room: usize, lines: usize, shown: usize
 fn lent_at(which: u8, this: u8, size: usize, all: usize) -> usize
     ensures { result ≡ cond (eqb which this) size all }
 {
-    if which == this {
-        return size;
-    }
-    all
+    if which == this { size } else { all }
 }
 
 // A length of two bytes, the high one first.
 fn size_of(high: u8, low: u8) -> usize
     ensures { result ≡ high * 256 + low }
 {
-    (high as usize) * 256 + (low as usize)
+    usize::from(high) * 256 + usize::from(low)
 }

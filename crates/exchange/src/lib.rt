@@ -11,15 +11,7 @@ use till::{Said, Till, Word};
 pub fn is_waiting(word: Word) -> bool
     ensures { result ≡ waits word }
 {
-    match word {
-        Word::Idle => false,
-        Word::Waiting(_) => true,
-        Word::SendAgain(_) => false,
-        Word::Answered(_) => false,
-        Word::Unfinished(_) => false,
-        Word::TooShort => false,
-        Word::NotSent => false,
-    }
+    matches!(word, Word::Waiting(_))
 }
 
 // Some bytes from the line, up to the first of which the till end says another word than Waiting.
@@ -33,16 +25,12 @@ pub fn hear_some(
     ensures { record { said = result; answer = answer.new; buffer = buf.new } ≡ heard_some frame.now till answer.old buf.old bytes.now }
 {
     let mut listening = till;
-    let mut i = 0;
-    while i < bytes.len() {
-        let said = till::byte(listening, frame, answer, bytes[i], buf);
-        let word = said.word;
-        if !is_waiting(word) {
+    for b in bytes {
+        let said = till::byte(listening, frame, answer, *b, buf);
+        if !is_waiting(said.word) {
             return said;
         }
-        let next = said.till;
-        listening = next;
-        i += 1;
+        listening = said.till;
     }
     Said {
         till: listening,
@@ -61,10 +49,8 @@ pub fn hear_back(
     ensures { record { said = result; answer = answer.new; buffer = buf.new } ≡ heard_back frame.now till answer.old buf.old bytes.now }
 {
     let said = hear_some(till, frame, answer, bytes, buf);
-    let word = said.word;
-    if !is_waiting(word) {
+    if !is_waiting(said.word) {
         return said;
     }
-    let waiting = said.till;
-    till::timeout(waiting, frame, buf)
+    till::timeout(said.till, frame, buf)
 }

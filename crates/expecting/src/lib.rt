@@ -37,7 +37,7 @@ pub fn expected_at(reader: Reader, array: &[u8]) -> Expected
     if !reader.inside {
         return only(Part::Start, 0x01);
     }
-    let came = basics::least_size(reader.count as usize, array.len());
+    let came = (reader.count as usize).min(array.len());
     if came == 0 {
         return Expected {
             part: Part::Len,

@@ -17,14 +17,13 @@ fn main(rt: HostRuntime) {
         output: rt.stdout(),
         errors: rt.stderr(),
     };
-    let wish = arguments(&rt);
-    if !wish.fits {
+    let Some(wish) = arguments(&rt) else {
         system::write(
             &to.errors,
             b"usage: explain [-html] [RECORDING]\nerror: these arguments are of no such form: name one recording, or give it on standard input\n",
         );
         return;
-    }
+    };
     match opened(&rt, rt.stdin(), wish.recording) {
         Ok(mut recording) => {
             begin(to, wish.html);
@@ -41,17 +40,21 @@ fn main(rt: HostRuntime) {
     }
 }
 
-fn arguments(rt: &impl Env) -> Wish {
+fn arguments(rt: &impl Env) -> Option<Wish> {
     let mut first = [0u8; NAME_ROOM];
     let n = system::arg(rt, 1, &mut first);
     wishes::wish_of(system::arg_count(rt), &first[..n])
 }
 
 // The recording that an argument names, open for reading; without one standard input.
-fn opened<R: Env + Files<File = File>>(rt: &R, input: Stdin, place: usize) -> Result<Recording> {
-    if place == 0 {
+fn opened<R: Env + Files<File = File>>(
+    rt: &R,
+    input: Stdin,
+    place: Option<usize>,
+) -> Result<Recording> {
+    let Some(place) = place else {
         return Ok(Recording::Input(input));
-    }
+    };
     let mut name = [0u8; NAME_ROOM];
     let n = system::arg(rt, place, &mut name);
     let file = system::open_read(rt, &name[..n])?;

@@ -40,8 +40,7 @@ pub(crate) fn tell(to: Outlets, recording: &mut Recording, html: bool) {
     let mut kept = kept::fresh_kept();
     let mut trail = trail::fresh();
     let mut span = Span { from: 0, count: 0 };
-    let mut turns = 9223372036854775807u64;
-    while turns > 0 {
+    for _ in 0..i64::MAX {
         span = refill(to, recording, &mut bytes, span);
         if span.count == 0 {
             tell_end(to, html, trail, &shadow);
@@ -52,12 +51,11 @@ pub(crate) fn tell(to: Outlets, recording: &mut Recording, html: bool) {
         let read = part(&bytes, span.count);
         let at = span.from;
         let seen = see(kept, &mut frame, &mut last, &mut buf, &mut text, read, at);
-        kept = seen.kept;
-        let taken = taken_of(&bytes, span, seen.taken);
+        kept = seen.next.kept;
+        let taken = taken_of(&bytes, span, seen.next.taken);
         tell_call(to, html, trail, &shadow, taken, seen, &buf, &text);
         trail = trail::follow(trail, &mut shadow, taken);
-        span = behind(span, seen.taken);
-        turns -= 1;
+        span = behind(span, seen.next.taken);
     }
 }
 
@@ -72,14 +70,22 @@ fn tell_call(
     buf: &[u8; ANSWER_ROOM],
     display: &[u8; MOST_SHOWN],
 ) {
-    let call = seen.call;
-    let number = seen.number;
-    let reason = seen.reason;
-    let shows = seen.shows;
-    let given = front(buf, seen.count);
+    let next = seen.next;
+    let given = front(buf, next.count);
     let mut text = [0u8; TELLING_ROOM];
     let n = story::put_call(
-        &mut text, 0, html, trail, shadow, taken, call, number, reason, given, shows, display,
+        &mut text,
+        0,
+        html,
+        trail,
+        shadow,
+        taken,
+        next.call,
+        next.number,
+        seen.reason,
+        given,
+        next.shows,
+        display,
     );
     system::write(&to.output, front(&text, n));
 }
@@ -126,23 +132,12 @@ fn part(bytes: &[u8; PART_ROOM], n: usize) -> &[u8] {
 // The first of the bytes that are not yet heard, as many as were taken.
 fn taken_of(bytes: &[u8; PART_ROOM], span: Span, taken: usize) -> &[u8] {
     let read = part(bytes, span.count);
-    let from = basics::least_size(span.from, read.len());
+    let from = span.from.min(read.len());
     front(&read[from..], taken)
 }
 
 // Those behind them: none where all were taken.
 fn behind(span: Span, taken: usize) -> Span {
-    if span.count <= span.from {
-        return span;
-    }
-    if span.count - span.from <= taken {
-        return Span {
-            from: span.count,
-            count: span.count,
-        };
-    }
-    Span {
-        from: span.from + taken,
-        count: span.count,
-    }
+    let from = span.from.saturating_add(taken).min(span.count);
+    Span { from, ..span }
 }

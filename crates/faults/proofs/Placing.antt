@@ -1,12 +1,11 @@
 -- A byte put within a run that stands in a buffer, and what `replace` leaves.
-use mathlib.Core.Path.{◌≡◌, refl, sym, ap, ◌∙◌}
+use mathlib.Core.Path.{◌≡◌, refl, ap, ◌∙◌}
 use mathlib.Core.List.{List, [], ◌∷◌}
-use Prim.Native.Nat.{ℕ, zero, suc, ◌+◌, ◌-◌, ◌≤◌, ◌<◌, min}
+use Prim.Native.Nat.{ℕ, zero, suc, ◌+◌, ◌-◌, ◌≤◌, ◌<◌}
 use native.Mathlib.Omega.{arith}
-use lib.ListN.{length, set, length-set}
-use lib.Seq.{sets, length-sets, set_out, set-set, set_comm}
-use Rattle.faults.specs.Faults.{replaced, arrived_of}
-use Rattle.faults.specs.declared.Fault.{Fault}
+use lib.ListN.{length, set}
+use lib.Seq.{sets, set-set, set_comm}
+use Rattle.faults.specs.Faults.{replaced}
 
 -- a byte before a run may be put first
 set_before : (l : List ℕ) (i j : ℕ) (vs : List ℕ) (b : ℕ) → j < i → set (sets l i vs) j b ≡ sets (set l j b) i vs
@@ -26,16 +25,6 @@ set_within l i (suc j) (v ∷ vs) b h =
     ap (λ k. set (sets (set l i v) (suc i) vs) k b) further ∙ set_within (set l i v) (suc i) j vs b (omega arith)
 
 module _ (l out bytes : List ℕ) (n place byte : ℕ) (size : length bytes ≡ n) (stood : out ≡ sets l 0 bytes) where
-  pub no_place : place ≡ 0 → out ≡ sets l 0 (replaced place byte bytes)
-  no_place e = stood ∙ ap (λ p. sets l 0 (replaced p byte bytes)) (sym e)
-
-  pub past_place : n < place → out ≡ sets l 0 (replaced place byte bytes)
-  past_place h = stood ∙ go place h
-    where
-      go : (p : ℕ) → n < p → sets l 0 bytes ≡ sets l 0 (replaced p byte bytes)
-      go zero h = absurd (omega arith)
-      go (suc p) h = ap (sets l 0) (sym (set_out bytes p byte (omega arith)))
-
   pub at_place : (place ≡ 0 → ⊥) → place ≤ n → set out (place - 1) byte ≡ sets l 0 (replaced place byte bytes)
   at_place some h = ap (λ o. set o (place - 1) byte) stood ∙ go place some h
     where
@@ -44,15 +33,3 @@ module _ (l out bytes : List ℕ) (n place byte : ℕ) (size : length bytes ≡ 
       go (suc p) some h =
           let here : suc p - 1 ≡ 0 + p = omega arith in
           ap (λ k. set (sets l 0 bytes) k byte) here ∙ set_within l 0 p bytes byte (omega arith)
-
--- as many bytes as before
-pub length-replaced : (place byte : ℕ) (bytes : List ℕ) → length (replaced place byte bytes) ≡ length bytes
-length-replaced zero byte bytes = refl
-length-replaced (suc p) byte bytes = length-set bytes p byte
-
--- what stands in the buffer, and the count, where it is known what arrives
-pub arrives : (fault : Fault) (bytes out after arrived : List ℕ) (n : ℕ) → arrived_of fault bytes ≡ arrived → after ≡ sets out 0 arrived
-    → n ≡ min (length arrived) (length after) → (n ≡ min (length (arrived_of fault bytes)) (length out)) × (after ≡ sets out 0 (arrived_of fault bytes))
-arrives fault bytes out after arrived n e f g =
-    let same : length after ≡ length out = ap length f ∙ length-sets out 0 arrived in
-    (g ∙ ap (min (length arrived)) same ∙ ap (λ l. min (length l) (length out)) (sym e), f ∙ ap (sets out 0) (sym e))

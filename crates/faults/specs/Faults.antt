@@ -2,7 +2,6 @@
 use Rattle.std.specs.Prelude.{ℕ, zero, suc, ◌+◌, ◌%◌, Bool, cond, List, [], get_or, set, replicate}
 use Rattle.faults.specs.declared.Fault.{Fault}
 use Rattle.faults.specs.declared.Fault.TheVariants.{Nothing, Becomes, Lost}
-use Rattle.faults.specs.declared.Spot.{Spot}
 use Rattle.faults.specs.declared.Faults.{Faults}
 
 -- PROTOCOL 9.1: whole; with one byte replaced by another, the first being at place 1; or nothing. At a place where there is no byte none is replaced
@@ -19,14 +18,11 @@ arrived_of Lost bytes = []
 abbrev pub spot_of : (answer : Bool) → (attempt : ℕ) → ℕ
 spot_of answer attempt = (attempt + 4) % 5 + cond answer 5 0
 
-abbrev pub spot_with : Fault → Spot
-spot_with fault = record { fault = fault }
-
 abbrev pub no_faults : Faults
-no_faults = record { spots = replicate 10 (spot_with Nothing) }
+no_faults = record { spots = replicate 10 Nothing }
 
 abbrev pub with_fault : Faults → (answer : Bool) → (attempt : ℕ) → Fault → Faults
-with_fault faults answer attempt fault = record { spots = set faults.spots (spot_of answer attempt) (spot_with fault) }
+with_fault faults answer attempt fault = record { spots = set faults.spots (spot_of answer attempt) fault }
 
 abbrev pub fault_of : Faults → (answer : Bool) → (attempt : ℕ) → Fault
-fault_of faults answer attempt = (get_or faults.spots (spot_of answer attempt) (spot_with Nothing)).fault
+fault_of faults answer attempt = get_or faults.spots (spot_of answer attempt) Nothing

@@ -5,8 +5,6 @@ ghost use Rattle.std.specs.Prelude.{◌≡◌, ℕ, ◌<◌, min, List, length};
 ghost use Rattle.std.proofs.lemmas.List.Edits.{sets};
 ghost use Rattle.faults.specs.Faults.{no_faults, spot_of, with_fault, fault_of, arrived_of, replaced};
 
-use basics::least_size;
-
 // PROTOCOL 7.6: as often as a frame is handed out at most.
 const TRIES: usize = 5;
 
@@ -21,47 +19,34 @@ pub enum Fault {
     Lost,
 }
 
-// What happens to one try or one answer.
-#[derive(Clone, Copy)]
-pub struct Spot {
-    pub fault: Fault,
-}
-
 // What happens to the tries of a command, and behind them to the answers.
 #[derive(Clone, Copy)]
 pub struct Faults {
-    pub spots: [Spot; SPOTS],
+    pub spots: [Fault; SPOTS],
 }
 
 // A line that carries everything as it is.
 pub fn none() -> Faults
     ensures { result ≡ no_faults }
 {
-    let spot = Spot {
-        fault: Fault::Nothing,
-    };
     Faults {
-        spots: [spot; SPOTS],
+        spots: [Fault::Nothing; SPOTS],
     }
 }
 
 // The same with one fault more, of a try or of its answer.
-pub fn with_fault(faults: Faults, answer: bool, attempt: u8, fault: Fault) -> Faults
+pub fn with_fault(mut faults: Faults, answer: bool, attempt: u8, fault: Fault) -> Faults
     ensures { result ≡ with_fault faults answer attempt fault }
 {
-    let at = spot_of(answer, attempt);
-    let mut more = faults;
-    more.spots[at] = Spot { fault };
-    more
+    faults.spots[spot_of(answer, attempt)] = fault;
+    faults
 }
 
 // What happens to a try, or to its answer.
 pub fn fault_of(faults: Faults, answer: bool, attempt: u8) -> Fault
     ensures { result ≡ fault_of faults answer attempt }
 {
-    let at = spot_of(answer, attempt);
-    let spot = faults.spots[at];
-    spot.fault
+    faults.spots[spot_of(answer, attempt)]
 }
 
 fn spot_of(answer: bool, attempt: u8) -> usize
@@ -82,13 +67,13 @@ pub fn arrive(bytes: &[u8], fault: Fault, out: &mut [u8]) -> usize
     match fault {
         Fault::Nothing => {
             text::put_bytes(out, 0, bytes);
-            least_size(bytes.len(), out.len())
+            bytes.len().min(out.len())
         }
         Fault::Lost => 0,
         Fault::Becomes { place, byte } => {
             text::put_bytes(out, 0, bytes);
             replace(bytes.len(), place, byte, out);
-            least_size(bytes.len(), out.len())
+            bytes.len().min(out.len())
         }
     }
 }
@@ -97,11 +82,7 @@ pub fn arrive(bytes: &[u8], fault: Fault, out: &mut [u8]) -> usize
 fn replace(n: usize, place: usize, byte: u8, out: &mut [u8])
     ensures { (l bytes : List ℕ) → length bytes ≡ n → out.old ≡ sets l 0 bytes → out.new ≡ sets l 0 (replaced place byte bytes) }
 {
-    if place == 0 {
-        return;
+    if (0 < place) & (place <= n) {
+        text::put_byte(out, place - 1, byte);
     }
-    if n < place {
-        return;
-    }
-    text::put_byte(out, place - 1, byte);
 }

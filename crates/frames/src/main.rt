@@ -4,7 +4,7 @@
 ghost use Rattle.std.specs.Prelude.{◌≤◌};
 
 use system::Outlets;
-use wire::{ANSWER_ROOM, Built, Way};
+use wire::{ANSWER_ROOM, Unbuilt, Way};
 
 fn main(rt: HostRuntime) {
     let to = Outlets {
@@ -72,9 +72,15 @@ fn answer(to: Outlets, name: &[u8], seq: u8, code: u8, content: &[u8], status: [
     report(to, name, Way::ToTill, built, buf);
 }
 
-fn report(to: Outlets, name: &[u8], way: Way, built: Built, buf: [u8; ANSWER_ROOM]) {
+fn report(
+    to: Outlets,
+    name: &[u8],
+    way: Way,
+    built: Result<usize, Unbuilt>,
+    buf: [u8; ANSWER_ROOM],
+) {
     word(to, name);
-    let Built::Frame(n) = built else {
+    let Ok(n) = built else {
         word(to, b"  8\n");
         return;
     };
@@ -104,33 +110,17 @@ fn framed(to: Outlets, way: Way, buf: [u8; ANSWER_ROOM], n: usize)
 }
 
 // 1 where the frame is still heard as whole when one of its n bytes is the next value up, 0 where it never is.
-fn changed(way: Way, buf: [u8; ANSWER_ROOM], n: usize) -> usize {
-    let mut i = 0;
-    while i < n {
-        if 0 < changed_at(way, buf, i) {
+fn changed(way: Way, buf: [u8; ANSWER_ROOM], n: usize) -> usize
+    requires { n ≤ 217 }
+{
+    for i in 0..n {
+        let mut other = buf;
+        other[i] = other[i].wrapping_add(1);
+        if 0 < reader::listen(way, &other).whole {
             return 1;
         }
-        i += 1;
     }
     0
-}
-
-fn changed_at(way: Way, buf: [u8; ANSWER_ROOM], at: usize) -> usize {
-    if ANSWER_ROOM <= at {
-        return 0;
-    }
-    let mut other = buf;
-    let b = other[at];
-    other[at] = next(b);
-    let told = reader::listen(way, &other);
-    told.whole
-}
-
-fn next(b: u8) -> u8 {
-    if b == 255 {
-        return 0;
-    }
-    b + 1
 }
 
 fn tell(to: Outlets, what: &[u8], told: reader::Told) {
@@ -155,12 +145,9 @@ fn show(to: Outlets, bytes: &[u8]) {
 
 // A space and two hexadecimal digits for each byte.
 fn pairs(to: Outlets, bytes: &[u8]) {
-    let mut i = 0;
-    while i < bytes.len() {
-        let b = bytes[i];
+    for b in bytes {
         let pair = [b' ', hexadecimal(b / 16), hexadecimal(b % 16)];
         word(to, &pair);
-        i += 1;
     }
 }
 

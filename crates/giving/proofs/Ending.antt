@@ -9,7 +9,7 @@ use lib.ListN.{length, take, drop}
 use lib.Seq.{sets}
 use Rattle.sheet.specs.Sheet.{match_at}
 use Rattle.sheet.specs.declared.Line.{Line}
-use Rattle.sheet.specs.declared.Match.{Match}
+use Rattle.std.specs.Prelude.{Option}
 use Rattle.line.specs.Turns.{last_answer}
 use Rattle.line.specs.Calls.{before_of}
 use Rattle.line.specs.declared.Call.{Call}
@@ -59,7 +59,7 @@ module _ (b : Begun) (at : ℕ) (found : Line) (last buffer : List ℕ) where
   end_order s c n made em e = em ∙ asked (Order s c n) e
 
   -- an order carried out and kept
-  pub order_is : (seq code : ℕ) (m : Match) (w : Work) (last' buffer' : List ℕ) (e : Ended) → m ≡ match_at at b.lines found
+  pub order_is : (seq code : ℕ) (m : Option ℕ) (w : Work) (last' buffer' : List ℕ) (e : Ended) → m ≡ match_at at b.lines found
       → record { work = w; buffer = buffer' } ≡ worked b.device.books m seq code b.passes b.parsed buffer
       → last' ≡ sets last 0 (take (w.count - 0) (drop 0 buffer')) → e ≡ hands_back b seq code w at found
       → record { ended = e; last = last'; buffer = buffer' } ≡ carried_behind b seq code at found last (worked b.device.books (match_at at b.lines found) seq code b.passes b.parsed buffer)

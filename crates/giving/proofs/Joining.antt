@@ -8,7 +8,7 @@ use lib.Dec.{leb}
 use lib.ListN.{length, take, drop, get_or}
 use lib.Seq.{sets}
 use borrow.Author.Tests.{le-leb}
-use Rattle.kinds.specs.declared.Parsed.{Parsed}
+use Rattle.kinds.specs.Fields.{Parsed}
 use Rattle.command.specs.Commands.{parsed_of}
 use Rattle.sheet.specs.Sheet.{blank}
 use Rattle.sheet.specs.Searches.{place_of, match_of}

@@ -47,18 +47,15 @@ pub fn finish(
 fn end_with(begun: Begun, number: u64, count: usize, at: usize, found: Line) -> Ended
     ensures { result ≡ staying_with begun number count at found }
 {
-    let device = begun.device;
-    let call = begun.call;
-    let shows = begun.shows;
     Ended {
         hearing: Hearing {
             given: Given {
-                device,
+                device: begun.device,
                 number,
                 count,
-                shows,
+                shows: begun.shows,
             },
-            call,
+            call: begun.call,
             taken: begun.taken,
         },
         writes: sheet::writes_of(Note::Nothing, at, found, at),
@@ -70,25 +67,17 @@ fn give(begun: Begun, at: usize, found: Line, last: &mut [u8], buf: &mut [u8]) -
     ensures buf_after { record { ended = result; last = last.new; buffer = buf.new } ≡ ending_as begun.call begun at found last.old buf.old }
     ensures count_bound { result.hearing.given.count ≤ 217 }
 {
-    let call = begun.call;
-    match call {
+    match begun.call {
         Call::Quiet => end_with(begun, 0, 0, at, found),
         Call::Nak => {
             text::put_byte(buf, 0, 0x15);
             end_with(begun, 5, 1, at, found)
         }
         Call::Again => {
-            let device = begun.device;
-            let line = device.line;
-            let previous = line.previous;
-            let count = again(previous, &*last, buf);
+            let count = again(begun.device.line.previous, &*last, buf);
             end_with(begun, 6, count, at, found)
         }
-        Call::Order {
-            seq,
-            code,
-            count: _,
-        } => order(begun, seq, code, at, found, last, buf),
+        Call::Order { seq, code, .. } => order(begun, seq, code, at, found, last, buf),
     }
 }
 
@@ -99,12 +88,8 @@ fn again(previous: Previous, last: &[u8], buf: &mut [u8]) -> usize
 {
     match previous {
         Previous::Nothing => 0,
-        Previous::Frame {
-            seq: _,
-            code: _,
-            count,
-        } => {
-            let n = basics::least_size(count, last.len());
+        Previous::Frame { count, .. } => {
+            let n = count.min(last.len());
             text::put_bytes(buf, 0, &last[0..n]);
             n
         }
@@ -125,13 +110,17 @@ fn order(
     ensures buf_after { record { ended = result; last = last.new; buffer = buf.new } ≡ carried_behind begun seq code at found last.old (worked begun.device.books (match_at at begun.lines found) seq code begun.passes begun.parsed buf.old) }
     ensures count_bound { result.hearing.given.count ≤ 217 }
 {
-    let device = begun.device;
-    let books = device.books;
-    let parsed = begun.parsed;
     let m = sheet::match_at(at, begun.lines, found);
-    let work = carrying::carry_out(books, m, seq, code, begun.passes, parsed, buf);
-    let count = work.count;
-    text::put_bytes(last, 0, &buf[0..count]);
+    let work = carrying::carry_out(
+        begun.device.books,
+        m,
+        seq,
+        code,
+        begun.passes,
+        begun.parsed,
+        buf,
+    );
+    text::put_bytes(last, 0, &buf[0..work.count]);
     carried_out(begun, seq, code, work, at, found)
 }
 
@@ -140,15 +129,6 @@ fn carried_out(begun: Begun, seq: u8, code: u8, work: Work, at: usize, found: Li
     ensures { result ≡ hands_back begun seq code work at found }
 {
     let device = begun.device;
-    let books = device.books;
-    let receipt = books.receipt;
-    let line = device.line;
-    let reader = line.reader;
-    let guard = device.guard;
-    let call = begun.call;
-    let shows = begun.shows;
-    let note = work.note;
-    let after = work.books;
     let previous = Previous::Frame {
         seq,
         code,
@@ -158,17 +138,20 @@ fn carried_out(begun: Begun, seq: u8, code: u8, work: Work, at: usize, found: Li
         hearing: Hearing {
             given: Given {
                 device: Device {
-                    line: Port { reader, previous },
-                    books: after,
-                    guard,
+                    line: Port {
+                        previous,
+                        ..device.line
+                    },
+                    books: work.books,
+                    ..device
                 },
                 number: work.number,
                 count: work.count,
-                shows,
+                shows: begun.shows,
             },
-            call,
+            call: begun.call,
             taken: begun.taken,
         },
-        writes: sheet::writes_of(note, at, found, receipt.lines as usize),
+        writes: sheet::writes_of(work.note, at, found, device.books.receipt.lines as usize),
     }
 }

@@ -1,4 +1,5 @@
 -- What the guard says, as the code's branches ask it.
+use Rattle.std.proofs.lemmas.Bool.{and_parts}
 use mathlib.Core.Path.{◌≡◌, refl, sym, ap, ◌∙◌}
 use mathlib.Core.Bool.{Bool, true, false, cond, false≢true}
 use mathlib.Core.List.{List, [], ◌∷◌}
@@ -8,9 +9,11 @@ use lib.Dec.{leb}
 use lib.ListN.{length, take, set, length-take}
 use lib.Seq.{sets}
 use borrow.Author.Tests.{leb-true, leb-false}
-use Rattle.basics.proofs.Tests.{both}
 use Rattle.kinds.specs.Operators.{is_op}
-use Rattle.guard.specs.Guard.{is_locked, is_right, verdict_of, changed_by, with_count, with_name, judged_of}
+use Rattle.kinds.specs.declared.Command.{Command}
+use Rattle.kinds.specs.declared.Command.TheVariants.{OpenText, CloseText, PrintText, Open, Sell, Subtotal, Pay, Close, Cancel, Sums, Closing, Drawer, Status, Rates, ShowText, ChangePassword, ChangeName}
+use Rattle.kinds.specs.declared.Password.{Password}
+use Rattle.guard.specs.Guard.{is_locked, is_right, verdict_of, changed_by, with_count, with_name, judged_of, trial_of}
 use Rattle.guard.specs.declared.Guard.{Guard}
 use Rattle.guard.specs.declared.Judged.{Judged}
 use Rattle.guard.specs.declared.Trial.{Trial}
@@ -20,10 +23,31 @@ use Rattle.guard.specs.declared.Verdict.TheVariants.{Free, Right, Wrong, Locked}
 
 -- an operator's number
 pub op_from : (op : ℕ) → is_op op ≡ true → 1 ≤ op
-op_from op is = leb-true 1 op (both (leb 1 op) (leb op 8) is).0
+op_from op is = leb-true 1 op (and_parts (leb 1 op) (leb op 8) is).0
 
 pub op_to : (op : ℕ) → is_op op ≡ true → op ≤ 8
-op_to op is = leb-true op 8 (both (leb 1 op) (leb op 8) is).1
+op_to op is = leb-true op 8 (and_parts (leb 1 op) (leb op 8) is).1
+
+-- fourteen of the seventeen kinds try no password
+pub nothing_tried : (c : Command) → ((op : ℕ) (p : Password) (till : ℕ) → c ≡ Open op p till → ⊥) → ((op : ℕ) (old new : Password) → c ≡ ChangePassword op old new → ⊥)
+    → ((op : ℕ) (p : Password) → c ≡ ChangeName op p → ⊥) → trial.Nothing ≡ trial_of c
+nothing_tried (Open op p till) no_48 no_101 no_102 = absurd (no_48 op p till refl)
+nothing_tried (ChangePassword op old new) no_48 no_101 no_102 = absurd (no_101 op old new refl)
+nothing_tried (ChangeName op p) no_48 no_101 no_102 = absurd (no_102 op p refl)
+nothing_tried OpenText no_48 no_101 no_102 = refl
+nothing_tried CloseText no_48 no_101 no_102 = refl
+nothing_tried PrintText no_48 no_101 no_102 = refl
+nothing_tried (Sell s) no_48 no_101 no_102 = refl
+nothing_tried (Subtotal print show adjust) no_48 no_101 no_102 = refl
+nothing_tried (Pay p) no_48 no_101 no_102 = refl
+nothing_tried Close no_48 no_101 no_102 = refl
+nothing_tried Cancel no_48 no_101 no_102 = refl
+nothing_tried (Sums taxes) no_48 no_101 no_102 = refl
+nothing_tried (Closing clears) no_48 no_101 no_102 = refl
+nothing_tried (Drawer s) no_48 no_101 no_102 = refl
+nothing_tried Status no_48 no_101 no_102 = refl
+nothing_tried Rates no_48 no_101 no_102 = refl
+nothing_tried ShowText no_48 no_101 no_102 = refl
 
 abbrev is_free : Verdict → Bool
 is_free Free = true
@@ -81,7 +105,7 @@ take_own (suc n) [] = refl
 take_own (suc n) (x ∷ l) = ap (λ z. x ∷ z) (take_own n l)
 
 pub named : (g : Guard) (op : ℕ) (name : List ℕ) (n : ℕ) (names : List ℕ) → is_op op ≡ true → n ≡ min 24 (length name) → names ≡ sets g.names (24 * (op - 1)) (take (n - 0) name)
-    → ◌≡◌ {A = Guard} (record { digits = g.digits; values = g.values; sizes = set g.sizes (op - 1) n; names = names; wrong = g.wrong }) (with_name g op name)
+    → ◌≡◌ {A = Guard} (record { passwords = g.passwords; sizes = set g.sizes (op - 1) n; names = names; wrong = g.wrong }) (with_name g op name)
 named g op name n names is e f =
     let size = e ∙ sym (length-take 24 name) in
     let all : n - 0 ≡ n = omega arith in

@@ -1,11 +1,10 @@
 -- PROTOCOL 5.18 to 5.20: the guard of the eight operators.
-use Rattle.std.specs.Prelude.{ℕ, ◌+◌, ◌-◌, ◌*◌, Bool, true, cond, ◌&&◌, List, leb, eqb, length, get_or, set, take, drop, replicate}
+use Rattle.std.specs.Prelude.{ℕ, ◌+◌, ◌-◌, ◌*◌, Bool, true, cond, ◌&&◌, List, leb, eqb, length, get_or, set, take, drop, replicate, Ok, Err}
 use Rattle.std.proofs.lemmas.List.Edits.{sets}
 use Rattle.kinds.specs.Operators.{is_op, name_in}
 use Rattle.kinds.specs.declared.Command.{Command}
 use Rattle.kinds.specs.declared.Command.TheVariants.{OpenText, CloseText, PrintText, Open, Sell, Subtotal, Pay, Close, Cancel, Sums, Closing, Drawer, Status, Rates, ShowText, ChangePassword, ChangeName}
-use Rattle.kinds.specs.declared.Parsed.{Parsed}
-use Rattle.kinds.specs.declared.Parsed.TheVariants.{Read, Syntax, Unknown}
+use Rattle.kinds.specs.Fields.{Parsed}
 use Rattle.kinds.specs.declared.Password.{Password}
 use Rattle.guard.specs.declared.Guard.{Guard}
 use Rattle.guard.specs.declared.Judged.{Judged}
@@ -16,11 +15,11 @@ use Rattle.guard.specs.declared.Verdict.TheVariants.{Free, Right, Wrong, Locked}
 
 -- PROTOCOL 8.4: a fresh one: all passwords are 0000, all names empty, and none was wrong
 abbrev pub fresh_guard : Guard
-fresh_guard = record { digits = replicate 8 4; values = replicate 8 0; sizes = replicate 8 0; names = replicate 192 0; wrong = 0 }
+fresh_guard = record { passwords = replicate 8 (record { digits = 4; value = 0 }); sizes = replicate 8 0; names = replicate 192 0; wrong = 0 }
 
 -- PROTOCOL 5.3, 5.19: the password and the name of an operator
 abbrev pub password_of : Guard → (op : ℕ) → Password
-password_of g op = record { digits = get_or g.digits (op - 1) 0; value = get_or g.values (op - 1) 0 }
+password_of g op = get_or g.passwords (op - 1) (record { digits = 0; value = 0 })
 
 abbrev pub name_of : Guard → (op : ℕ) → List ℕ
 name_of g op = take (get_or g.sizes (op - 1) 0) (drop (24 * (op - 1)) g.names)
@@ -37,7 +36,7 @@ abbrev pub is_locked : Guard → Bool
 is_locked g = leb 3 g.wrong
 
 abbrev pub with_count : Guard → (wrong : ℕ) → Guard
-with_count g wrong = record { digits = g.digits; values = g.values; sizes = g.sizes; names = g.names; wrong = wrong }
+with_count g wrong = record { passwords = g.passwords; sizes = g.sizes; names = g.names; wrong = wrong }
 
 -- PROTOCOL 8.9: switched on anew, count and lock are forgotten, and all else stays
 abbrev pub calmed : Guard → Guard
@@ -47,13 +46,13 @@ calmed g = with_count g 0
 abbrev pub with_password : Guard → (op : ℕ) → Password → Guard
 with_password g op new =
     cond (is_op op)
-    (record { digits = set g.digits (op - 1) new.digits; values = set g.values (op - 1) new.value; sizes = g.sizes; names = g.names; wrong = g.wrong })
+    (record { passwords = set g.passwords (op - 1) new; sizes = g.sizes; names = g.names; wrong = g.wrong })
     g
 
 abbrev pub with_name : Guard → (op : ℕ) → List ℕ → Guard
 with_name g op name =
     cond (is_op op)
-    (record { digits = g.digits; values = g.values; sizes = set g.sizes (op - 1) (length (take 24 name)); names = sets g.names (24 * (op - 1)) (take 24 name); wrong = g.wrong })
+    (record { passwords = g.passwords; sizes = set g.sizes (op - 1) (length (take 24 name)); names = sets g.names (24 * (op - 1)) (take 24 name); wrong = g.wrong })
     g
 
 -- PROTOCOL 5.20: 48, 101 and 102 try a password, and no other command does: the one table over the seventeen kinds
@@ -122,6 +121,5 @@ abbrev pub judged_of : Guard → Trial → (content : List ℕ) → Judged
 judged_of g t content = record { guard = guard_after g (verdict_of g t) t content; passes = passes (verdict_of g t) }
 
 abbrev pub judged_by : Guard → Parsed → (content : List ℕ) → Judged
-judged_by g (Read c) content = judged_of g (trial_of c) content
-judged_by g Syntax content = record { guard = g; passes = true }
-judged_by g Unknown content = record { guard = g; passes = true }
+judged_by g (Ok c) content = judged_of g (trial_of c) content
+judged_by g (Err why) content = record { guard = g; passes = true }

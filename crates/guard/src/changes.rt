@@ -10,17 +10,7 @@ use labels::MOST_NAME;
 pub fn with_count(guard: Guard, wrong: u64) -> Guard
     ensures { result ≡ with_count guard wrong }
 {
-    let digits = guard.digits;
-    let values = guard.values;
-    let sizes = guard.sizes;
-    let names = guard.names;
-    Guard {
-        digits,
-        values,
-        sizes,
-        names,
-        wrong,
-    }
+    Guard { wrong, ..guard }
 }
 
 // What a command does to the guard, its password being right.
@@ -29,9 +19,9 @@ pub fn change(guard: Guard, trial: Trial, content: &[u8]) -> Guard
 {
     match trial {
         Trial::Nothing => guard,
-        Trial::Open { op: _, password: _ } => guard,
-        Trial::Change { op, old: _, new } => with_password(guard, op, new),
-        Trial::Name { op, password: _ } => with_name(guard, op, operators::name_in(content)),
+        Trial::Open { .. } => guard,
+        Trial::Change { op, new, .. } => with_password(guard, op, new),
+        Trial::Name { op, .. } => with_name(guard, op, operators::name_in(content)),
     }
 }
 
@@ -43,19 +33,9 @@ fn with_password(guard: Guard, op: u64, new: Password) -> Guard
         return guard;
     }
     let i = (op - 1) as usize;
-    let mut digits = guard.digits;
-    let mut values = guard.values;
-    let sizes = guard.sizes;
-    let names = guard.names;
-    digits[i] = new.digits;
-    values[i] = new.value;
-    Guard {
-        digits,
-        values,
-        sizes,
-        names,
-        wrong: guard.wrong,
-    }
+    let mut passwords = guard.passwords;
+    passwords[i] = new;
+    Guard { passwords, ..guard }
 }
 
 // Another name for an operator, of 24 bytes at most.
@@ -66,18 +46,14 @@ fn with_name(guard: Guard, op: u64, name: &[u8]) -> Guard
         return guard;
     }
     let i = (op - 1) as usize;
-    let n = basics::least_size(MOST_NAME, name.len());
-    let digits = guard.digits;
-    let values = guard.values;
+    let n = MOST_NAME.min(name.len());
     let mut sizes = guard.sizes;
     let mut names = guard.names;
     sizes[i] = n;
     text::put_bytes(&mut names, MOST_NAME * i, &name[0..n]);
     Guard {
-        digits,
-        values,
         sizes,
         names,
-        wrong: guard.wrong,
+        ..guard
     }
 }

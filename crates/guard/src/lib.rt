@@ -6,7 +6,7 @@ mod changes;
 ghost use Rattle.std.specs.Prelude.{◌≡◌};
 ghost use Rattle.guard.specs.Guard.{fresh_guard, calmed, trial_of, is_right, tried, verdict_of, judged_of, judged_by};
 
-use kinds::{Command, Parsed, Password, operators};
+use kinds::{Command, Password, Unread, operators};
 
 // PROTOCOL 5.3: Op is from 1 to 8.
 pub const OPERATORS: usize = 8;
@@ -17,12 +17,11 @@ pub const NAMES_ROOM: usize = 192;
 // PROTOCOL 5.20: as many wrong passwords lock the device.
 pub const MOST_WRONG: u64 = 3;
 
-// Of each operator the digits of the password and what they come to, the length of the name and its 24 bytes; and the wrong passwords with
-// no right one between. Three of them are the lock.
+// Of each operator the password, the length of the name and its 24 bytes; and the wrong passwords with no right one between. Three of them are
+// the lock.
 #[derive(Clone, Copy)]
 pub struct Guard {
-    pub digits: [usize; OPERATORS],
-    pub values: [u64; OPERATORS],
+    pub passwords: [Password; OPERATORS],
     pub sizes: [usize; OPERATORS],
     pub names: [u8; NAMES_ROOM],
     pub wrong: u64,
@@ -68,8 +67,10 @@ pub fn fresh() -> Guard
     ensures { result ≡ fresh_guard }
 {
     Guard {
-        digits: [4usize; OPERATORS],
-        values: [0u64; OPERATORS],
+        passwords: [Password {
+            digits: 4,
+            value: 0,
+        }; OPERATORS],
         sizes: [0usize; OPERATORS],
         names: [0u8; NAMES_ROOM],
         wrong: 0,
@@ -88,31 +89,10 @@ pub fn trial_of(command: Command) -> Trial
     ensures { result ≡ trial_of command }
 {
     match command {
-        Command::OpenText => Trial::Nothing,
-        Command::CloseText => Trial::Nothing,
-        Command::PrintText => Trial::Nothing,
-        Command::Open {
-            op,
-            password,
-            till: _,
-        } => Trial::Open { op, password },
-        Command::Sell(_) => Trial::Nothing,
-        Command::Subtotal {
-            print: _,
-            show: _,
-            adjust: _,
-        } => Trial::Nothing,
-        Command::Pay(_) => Trial::Nothing,
-        Command::Close => Trial::Nothing,
-        Command::Cancel => Trial::Nothing,
-        Command::Sums { taxes: _ } => Trial::Nothing,
-        Command::Closing { clears: _ } => Trial::Nothing,
-        Command::Drawer(_) => Trial::Nothing,
-        Command::Status => Trial::Nothing,
-        Command::Rates => Trial::Nothing,
-        Command::ShowText => Trial::Nothing,
+        Command::Open { op, password, .. } => Trial::Open { op, password },
         Command::ChangePassword { op, old, new } => Trial::Change { op, old, new },
         Command::ChangeName { op, password } => Trial::Name { op, password },
+        _ => Trial::Nothing,
     }
 }
 
@@ -124,9 +104,7 @@ fn is_right(guard: Guard, op: u64, password: Password) -> bool
         return false;
     }
     let i = (op - 1) as usize;
-    let digits = guard.digits;
-    let values = guard.values;
-    (digits[i] == password.digits) & (values[i] == password.value)
+    guard.passwords[i] == password
 }
 
 // What the guard says to a trial.
@@ -136,7 +114,7 @@ pub fn verdict_of(guard: Guard, trial: Trial) -> Verdict
     match trial {
         Trial::Nothing => Verdict::Free,
         Trial::Open { op, password } => try_password(guard, op, password),
-        Trial::Change { op, old, new: _ } => try_password(guard, op, old),
+        Trial::Change { op, old, .. } => try_password(guard, op, old),
         Trial::Name { op, password } => try_password(guard, op, password),
     }
 }
@@ -155,16 +133,12 @@ fn try_password(guard: Guard, op: u64, password: Password) -> Verdict
 
 // A command as it was read, with its data. A password counts as tried here, whatever else refuses the command; data that no command was read
 // from tries none.
-pub fn judge(guard: Guard, parsed: Parsed, content: &[u8]) -> Judged
+pub fn judge(guard: Guard, parsed: Result<Command, Unread>, content: &[u8]) -> Judged
     ensures { result ≡ judged_by guard parsed content.now }
 {
     match parsed {
-        Parsed::Read(command) => judge_trial(guard, trial_of(command), content),
-        Parsed::Syntax => Judged {
-            guard,
-            passes: true,
-        },
-        Parsed::Unknown => Judged {
+        Ok(command) => judge_trial(guard, trial_of(command), content),
+        Err(_) => Judged {
             guard,
             passes: true,
         },

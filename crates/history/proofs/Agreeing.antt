@@ -10,7 +10,7 @@ use Rattle.kinds.specs.declared.Adjust.{Adjust}
 use Rattle.kinds.specs.declared.Mode.{Mode}
 use Rattle.kinds.specs.declared.Mode.TheVariants.{Cash, N, C, D, B}
 use Rattle.kinds.specs.declared.Sale.{Sale}
-use Rattle.sheet.specs.declared.Match.{Match}
+use Rattle.std.specs.Prelude.{Option}
 use Rattle.receipt.specs.Receipts.{empty_receipt, amount_of, group_after, with_line}
 use Rattle.receipt.proofs.Adjusting.{fits_parts}
 use Rattle.shares.specs.Receipts.{with_adjust}
@@ -53,7 +53,7 @@ line_here : (minus : Bool) (x a : ℕ) → cond minus (x - a) (x + a) ≡ x + co
 line_here true x a = omega arith
 line_here false x a = omega arith
 
-module _ (f : Figures) (b : Books) (h : Says f b) (m : Match) (s : Sale) (told : amount_of s m ≡ amount_told f.receipt.sold s) where
+module _ (f : Figures) (b : Books) (h : Says f b) (m : Option ℕ) (s : Sale) (told : amount_of s m ≡ amount_told f.receipt.sold s) where
   abbrev amount : ℕ
   amount = amount_told f.receipt.sold s
 
@@ -117,7 +117,7 @@ abbrev closed_with : Memory → List ℕ → Memory
 closed_with m sums = record { closings = m.closings + 1; total = m.total + sum sums }
 
 -- by the views; what the sheet brings a line is what the entries tell
-pub agreeing : (f : Figures) (b : Books) → Says f b → Reached b → (m : Match) (v : View) → m ≡ match_in f.receipt.sold v → Free b m v
+pub agreeing : (f : Figures) (b : Books) → Says f b → Reached b → (m : Option ℕ) (v : View) → m ≡ match_in f.receipt.sold v → Free b m v
     → left_of (rule_of b m v).shows < 10 ^ 10 → Says (after v (content_of (rule_of b m v).shows b.day (rule_of b m v).after) f) (rule_of b m v).after
 agreeing f b h k m Opens told free small =
     record {

@@ -1,4 +1,5 @@
 -- In every state that a fresh device can reach, every field shown fits its digits.
+use Rattle.std.proofs.lemmas.Bool.{and_parts}
 use mathlib.Core.Path.{◌≡◌}
 use mathlib.Core.Bool.{Bool, true, false, cond}
 use Prim.Native.Nat.{ℕ, ◌-◌, ◌^◌, ◌<◌}
@@ -8,8 +9,7 @@ use borrow.Author.Tests.{ltb-true, not-false}
 use Rattle.kinds.specs.declared.Command.{Command}
 use Rattle.kinds.specs.declared.Tender.{Tender}
 use Rattle.kinds.specs.declared.Tender.TheVariants.{Rest, Amount}
-use Rattle.basics.proofs.Tests.{both}
-use Rattle.sheet.specs.declared.Match.{Match}
+use Rattle.std.specs.Prelude.{Option}
 use Rattle.receipt.specs.Receipts.{given_of}
 use Rattle.books.specs.Groups.{at}
 use Rattle.books.specs.declared.Books.{Books}
@@ -50,13 +50,13 @@ digits_fit b h =
 -- what is given is below the limit, where the rest is
 given_small : (rest : ℕ) (t : Tender) → rest < 10000000000 → tender_holds t ≡ true → given_of rest t < 10000000000
 given_small rest Rest h e = h
-given_small rest (Amount n) h e = ltb-true n 10000000000 (both (ltb 0 n) (ltb n 10000000000) e).1
+given_small rest (Amount n) h e = ltb-true n 10000000000 (and_parts (ltb 0 n) (ltb n 10000000000) e).1
 
 left_small : (full : Bool) (given rest : ℕ) → given < 10000000000 → rest < 10000000000 → cond full (given - rest) (rest - given) < 10000000000
 left_small true given rest h k = omega arith
 left_small false given rest h k = omega arith
 
-pub left_fits : (b : Books) → Reached b → (m : Match) (v : View) → Given v → left_of (rule_of b m v).shows < 10 ^ 10
+pub left_fits : (b : Books) → Reached b → (m : Option ℕ) (v : View) → Given v → left_of (rule_of b m v).shows < 10 ^ 10
 left_fits b h m (Pays p) i =
     let k : Kept b = parts b h.fits in
     let small : owed b < 10000000000 = omega (arith, k.total) in
@@ -73,7 +73,7 @@ left_fits b h m Clears i = omega arith
 left_fits b h m (Puts n) i = omega arith
 left_fits b h m (Takes n) i = omega arith
 
-pub rest_and_change_fit : (b : Books) (m : Match) (c : Command) → Reached b → Given (view_of c) → left_of (carried_out b m c).shown < 10 ^ 10
+pub rest_and_change_fit : (b : Books) (m : Option ℕ) (c : Command) → Reached b → Given (view_of c) → left_of (carried_out b m c).shown < 10 ^ 10
 rest_and_change_fit b m c h i = go (view_of c) i (taken b m c)
   where
     go : (v : View) → Given v → {d : Deed} → Step b m v d → left_of d.shown < 10 ^ 10

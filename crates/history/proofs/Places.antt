@@ -1,4 +1,5 @@
 -- A line taken back, among the lines of a receipt by their places: one that stood stands no more, all others stay, and its amount is off its group.
+use Rattle.std.proofs.lemmas.Bool.{and_parts}
 use mathlib.Core.Path.{◌≡◌, refl, sym, ap, ◌∙◌, subst}
 use mathlib.Core.Bool.{Bool, true, false, cond, ◌&&◌, false≢true}
 use mathlib.Core.List.{List, [], ◌∷◌}
@@ -8,11 +9,10 @@ use native.Mathlib.Omega.{arith}
 use lib.Dec.{eqb}
 use lib.ListN.{length}
 use borrow.Author.Tests.{eqb-true, eqb-false, eq-eqb, ne_eqb}
-use Rattle.basics.proofs.Tests.{both}
 use Rattle.kinds.specs.declared.Sale.{Sale}
 use Rattle.sheet.specs.Notes.{taken_back}
 use Rattle.sheet.specs.declared.Line.{Line}
-use Rattle.sheet.specs.declared.Match.{Match}
+use Rattle.std.specs.Prelude.{Option, Some, is_some, unwrap_or}
 use Rattle.history.specs.Sold.{is_like, newest_like, without_newest}
 use Rattle.history.specs.TakingBack.{line_at, standing, worth_of}
 use Rattle.history.proofs.Sheets.{as_many}
@@ -36,9 +36,9 @@ like_parts l x e =
     let p = eqb l.price x.price in
     let q = eqb l.quantity x.quantity in
     let g = eqb l.group x.group in
-    let e3 = both (l.stands && p && q) g e in
-    let e2 = both (l.stands && p) q e3.0 in
-    let e1 = both l.stands p e2.0 in
+    let e3 = and_parts (l.stands && p && q) g e in
+    let e2 = and_parts (l.stands && p) q e3.0 in
+    let e1 = and_parts l.stands p e2.0 in
     record {
       stood = e1.0;
       price = eqb-true l.price x.price e1.1;
@@ -47,18 +47,18 @@ like_parts l x e =
     }
 
 -- the line found, by its place; `after` are the lines once it is taken back
-pub record FoundIn (x : Sale) (ls : List Line) (m : Match) (after : List Line) : Type 0 where
+pub record FoundIn (x : Sale) (ls : List Line) (m : Option ℕ) (after : List Line) : Type 0 where
   pub place : ℕ
   pub among : place < length ls
   pub like : is_like (line_at place ls) x ≡ true
   pub last : (i : ℕ) → place < i → i < length ls → is_like (line_at i ls) x ≡ false
-  pub amount : m.amount ≡ (line_at place ls).amount
+  pub amount : unwrap_or m 0 ≡ (line_at place ls).amount
   pub marked : line_at place after ≡ taken_back (line_at place ls)
   pub others : (i : ℕ) → i < length ls → (i ≡ place → ⊥) → line_at i after ≡ line_at i ls
 
 module _ (x : Sale) (l : Line) (ls : List Line) where
-  abbrev here : Match
-  here = record { found = true; amount = l.amount }
+  abbrev here : Option ℕ
+  here = Some l.amount
 
   found-newest : is_like l x ≡ true → FoundIn x (l ∷ ls) here (taken_back l ∷ ls)
   found-newest e =
@@ -74,7 +74,7 @@ module _ (x : Sale) (l : Line) (ls : List Line) where
         others = λ i a z. at_older (taken_back l) ls i z ∙ sym (at_older l ls i z);
       }
 
-  found-older : is_like l x ≡ false → {m : Match} {after : List Line} → length after ≡ length ls → FoundIn x ls m after → FoundIn x (l ∷ ls) m (l ∷ after)
+  found-older : is_like l x ≡ false → {m : Option ℕ} {after : List Line} → length after ≡ length ls → FoundIn x ls m after → FoundIn x (l ∷ ls) m (l ∷ after)
   found-older e {m} {after} same f =
       let p = f.place in
       let is = at_older l ls p (λ z. omega (arith, f.among)) in
@@ -96,12 +96,12 @@ module _ (x : Sale) (l : Line) (ls : List Line) where
       other-of i a z true k = refl
       other-of i a z false k = f.others i (omega (arith, eqb-false i (length ls) k)) z
 
-pub found_in : (x : Sale) (ls : List Line) → (newest_like x ls).found ≡ true → FoundIn x ls (newest_like x ls) (without_newest x ls)
+pub found_in : (x : Sale) (ls : List Line) → is_some (newest_like x ls) ≡ true → FoundIn x ls (newest_like x ls) (without_newest x ls)
 found_in x [] e = absurd (false≢true e)
 found_in x (l ∷ ls) e = go (found_in x ls) (is_like l x) refl e
   where
-    go : ((newest_like x ls).found ≡ true → FoundIn x ls (newest_like x ls) (without_newest x ls)) → (t : Bool) → is_like l x ≡ t
-        → (cond {A = Match} t (here x l ls) (newest_like x ls)).found ≡ true
+    go : (is_some (newest_like x ls) ≡ true → FoundIn x ls (newest_like x ls) (without_newest x ls)) → (t : Bool) → is_like l x ≡ t
+        → is_some (cond {A = Option ℕ} t (here x l ls) (newest_like x ls)) ≡ true
         → FoundIn x (l ∷ ls) (cond t (here x l ls) (newest_like x ls)) (cond t (taken_back l ∷ ls) (l ∷ without_newest x ls))
     go older true k e = found-newest x l ls k
     go older false k e = found-older x l ls k (as_many x ls) (older e)
@@ -129,17 +129,17 @@ same_or_back x (l ∷ ls) i = go (same_or_back x ls i) (is_like l x) refl
         subst (λ n. SameOrBack (cond (eqb i n) l (line_at i (without_newest x ls))) (line_at i (l ∷ ls))) (sym (as_many x ls)) (newest-same older (eqb i (length ls)))
 
 -- one line fewer stands
-pub one_fewer : (x : Sale) (ls : List Line) → (newest_like x ls).found ≡ true → standing (without_newest x ls) + 1 ≡ standing ls
+pub one_fewer : (x : Sale) (ls : List Line) → is_some (newest_like x ls) ≡ true → standing (without_newest x ls) + 1 ≡ standing ls
 one_fewer x [] e = absurd (false≢true e)
 one_fewer x (l ∷ ls) e = go (one_fewer x ls) (is_like l x) refl e
   where
-    go : ((newest_like x ls).found ≡ true → standing (without_newest x ls) + 1 ≡ standing ls) → (t : Bool) → is_like l x ≡ t
-        → (cond {A = Match} t (here x l ls) (newest_like x ls)).found ≡ true → standing (cond t (taken_back l ∷ ls) (l ∷ without_newest x ls)) + 1 ≡ standing (l ∷ ls)
+    go : (is_some (newest_like x ls) ≡ true → standing (without_newest x ls) + 1 ≡ standing ls) → (t : Bool) → is_like l x ≡ t
+        → is_some (cond {A = Option ℕ} t (here x l ls) (newest_like x ls)) ≡ true → standing (cond t (taken_back l ∷ ls) (l ∷ without_newest x ls)) + 1 ≡ standing (l ∷ ls)
     go older true k e = rw (like_parts l x k).stood (omega arith)
     go older false k e = omega (arith, older e)
 
 -- the group's lines come to less by the amount of the line found; where none is found that is nothing
-pub worth_less : (x : Sale) (g : ℕ) (ls : List Line) → worth_of g (without_newest x ls) + cond (eqb x.group g) (newest_like x ls).amount 0 ≡ worth_of g ls
+pub worth_less : (x : Sale) (g : ℕ) (ls : List Line) → worth_of g (without_newest x ls) + cond (eqb x.group g) (unwrap_or (newest_like x ls) 0) 0 ≡ worth_of g ls
 worth_less x g [] = nothing (eqb x.group g)
   where
     nothing : (t : Bool) → 0 + cond t 0 0 ≡ 0
@@ -147,8 +147,8 @@ worth_less x g [] = nothing (eqb x.group g)
     nothing false = refl
 worth_less x g (l ∷ ls) = go (worth_less x g ls) (is_like l x) refl
   where
-    go : worth_of g (without_newest x ls) + cond (eqb x.group g) (newest_like x ls).amount 0 ≡ worth_of g ls → (t : Bool) → is_like l x ≡ t
-        → worth_of g (cond t (taken_back l ∷ ls) (l ∷ without_newest x ls)) + cond (eqb x.group g) (cond {A = Match} t (here x l ls) (newest_like x ls)).amount 0 ≡ worth_of g (l ∷ ls)
+    go : worth_of g (without_newest x ls) + cond (eqb x.group g) (unwrap_or (newest_like x ls) 0) 0 ≡ worth_of g ls → (t : Bool) → is_like l x ≡ t
+        → worth_of g (cond t (taken_back l ∷ ls) (l ∷ without_newest x ls)) + cond (eqb x.group g) (unwrap_or (cond {A = Option ℕ} t (here x l ls) (newest_like x ls)) 0) 0 ≡ worth_of g (l ∷ ls)
     go older true k =
         let is = like_parts l x k in
         rw (is.stood, is.group) (omega arith)

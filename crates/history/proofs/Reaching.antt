@@ -1,4 +1,5 @@
 -- What holds of the books in every state that a fresh device can reach.
+use Rattle.std.proofs.lemmas.Bool.{or_parts}
 use mathlib.Core.Path.{◌≡◌, refl, sym, ap, ◌∙◌}
 use mathlib.Core.Bool.{Bool, true, false, cond, not, ◌||◌, false≢true}
 use Prim.Native.Nat.{ℕ, ◌+◌, ◌-◌, ◌≤◌, min}
@@ -11,7 +12,7 @@ use Rattle.kinds.specs.declared.Command.{Command}
 use Rattle.kinds.specs.declared.Mode.{Mode}
 use Rattle.kinds.specs.declared.Payment.{Payment}
 use Rattle.kinds.specs.declared.Sale.{Sale}
-use Rattle.sheet.specs.declared.Match.{Match}
+use Rattle.std.specs.Prelude.{Option, unwrap_or}
 use Rattle.receipt.specs.Lines.{product_of, finished_of}
 use Rattle.receipt.specs.Receipts.{empty_receipt, group_after, with_line}
 use Rattle.receipt.proofs.Adjusting.{fits_parts}
@@ -31,7 +32,7 @@ use Rattle.rules.specs.Reasons.{memory_over, many_opened, owed, tendered}
 use Rattle.rules.specs.Rules.{rule_of}
 use Rattle.rules.specs.declared.views.View.{View}
 use Rattle.rules.specs.declared.views.View.TheVariants.{Opens, Sells, Adjusts, Pays, Closes, Cancels, OpensText, ClosesText, Clears, Puts, Takes, Asks}
-use Rattle.rules.proofs.Reasoning.{none_of, few_receipts}
+use Rattle.rules.proofs.Reasoning.{few_receipts}
 use Rattle.deeds.specs.Deeds.{carried_out}
 use Rattle.deeds.specs.declared.Deed.{Deed}
 use Rattle.history.specs.Reached.{Reached, Receipted}
@@ -58,12 +59,12 @@ line_total true all after x p f total h e s = omega (arith, h refl)
 line_total false all after x p f total h e s = omega arith
 
 module _ (b : Books) (h : Receipted b.receipt) where
-  pub line_receipted : (m : Match) (s : Sale) → LineDone b m s → Receipted (with_line b.receipt s m)
+  pub line_receipted : (m : Option ℕ) (s : Sale) → LineDone b m s → Receipted (with_line b.receipt s m)
   line_receipted m s l =
       let r = b.receipt in
       record {
         eight_groups = length-set r.groups s.group (group_after r s m) ∙ h.eight_groups;
-        total = line_total s.minus (sum (eight (at r.groups))) (sum (eight (at (set r.groups s.group (group_after r s m))))) (at r.groups s.group) m.amount (finished_of (product_of s) s.adjust) r.total l.covered h.total
+        total = line_total s.minus (sum (eight (at r.groups))) (sum (eight (at (set r.groups s.group (group_after r s m))))) (at r.groups s.group) (unwrap_or m 0) (finished_of (product_of s) s.adjust) r.total l.covered h.total
             (sum_eight_set r.groups s.group (group_after r s m) h.eight_groups (fits_parts s l.fields).0);
         few_lines = omega (arith, l.few);
         not_overpaid = omega (arith, h.unpaid l.untried);
@@ -123,7 +124,7 @@ text_fiscal Text e = refl
 never : {A : Type 0} (o : Opened) → fiscal_open o ≡ true → fiscal_open o ≡ false → A
 never o e f = absurd (false≢true (sym f ∙ e))
 
-pub reaching : (b : Books) → Reached b → (m : Match) (v : View) → Free b m v → Reached (rule_of b m v).after
+pub reaching : (b : Books) → Reached b → (m : Option ℕ) (v : View) → Free b m v → Reached (rule_of b m v).after
 reaching b h m Opens f =
     record { fits = step_sound b h.fits m Opens f; receipt = empty_receipted; eight_sums = h.eight_sums; four_registers = h.four_registers; blank = λ e. refl }
 reaching b h m (Sells s) f =
@@ -152,7 +153,7 @@ reaching b h m Closes f =
 reaching b h m Cancels f =
     record { fits = step_sound b h.fits m Cancels f; receipt = empty_receipted; eight_sums = h.eight_sums; four_registers = h.four_registers; blank = λ e. refl }
 reaching b h m OpensText f =
-    let none = none_of (any_open b.opened) (many_opened b) f.three in
+    let none = or_parts (any_open b.opened) (many_opened b) f.three in
     record {
       fits = step_sound b h.fits m OpensText f;
       receipt = h.receipt;
@@ -179,7 +180,7 @@ reaching b h m (Asks when shown) f = h
 pub fresh_reached : Reached fresh_books
 fresh_reached = record { fits = fresh_is_sound; receipt = empty_receipted; eight_sums = refl; four_registers = refl; blank = λ e. refl }
 
-pub reached_stays : (b : Books) (m : Match) (c : Command) → Reached b → Reached (carried_out b m c).books
+pub reached_stays : (b : Books) (m : Option ℕ) (c : Command) → Reached b → Reached (carried_out b m c).books
 reached_stays b m c h = go (taken b m c)
   where
     go : {v : View} {d : Deed} → Step b m v d → Reached d.books
@@ -187,13 +188,13 @@ reached_stays b m c h = go (taken b m c)
     go {v} (goes f) = reaching b h m v f
 
 -- in such books 48, 56 and 69 have no reason for 4 (PROTOCOL 8.7)
-pub opening_never_over : (b : Books) (m : Match) → Reached b → (rule_of b m Opens).three ≡ false → (rule_of b m Opens).four ≡ false
+pub opening_never_over : (b : Books) (m : Option ℕ) → Reached b → (rule_of b m Opens).three ≡ false → (rule_of b m Opens).four ≡ false
 opening_never_over b m h e = lt-leb 9999 b.counters.fiscal (omega (arith, few_receipts b e, (parts b h.fits).fiscal))
 
-pub closing_never_over : (b : Books) (m : Match) → Reached b → (rule_of b m Closes).four ≡ false
+pub closing_never_over : (b : Books) (m : Option ℕ) → Reached b → (rule_of b m Closes).four ≡ false
 closing_never_over b m h = ap not (parts b h.fits).groups
 
-pub clearing_never_over : (b : Books) (m : Match) → Reached b → (rule_of b m Clears).four ≡ false
+pub clearing_never_over : (b : Books) (m : Option ℕ) → Reached b → (rule_of b m Clears).four ≡ false
 clearing_never_over b m h =
     let k = parts b h.fits in
     let fm = memory_in b k.memory in

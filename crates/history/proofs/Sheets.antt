@@ -1,4 +1,5 @@
 -- A sheet that holds the lines of the open receipt: a search of it brings what the entries tell, and a line leaves in it what they tell.
+use Rattle.std.proofs.lemmas.Bool.{and_parts}
 use mathlib.Core.Path.{◌≡◌, refl, sym, ap, ◌∙◌, subst}
 use mathlib.Core.Bool.{Bool, true, false, cond, ◌&&◌}
 use mathlib.Core.List.{List, [], ◌∷◌}
@@ -8,13 +9,12 @@ use lib.Dec.{ltb}
 use lib.ListN.{length, get_or, set, length-set}
 use lib.Seq.{get_or-set_same, get_or-set_other}
 use borrow.Author.Tests.{ltb-true, lt-ltb, le-ltb, lt-leb}
-use Rattle.basics.proofs.Tests.{both}
 use Rattle.kinds.specs.declared.Sale.{Sale}
 use Rattle.sheet.specs.Sheet.{blank, held_of, line_of, matches, newest, match_at, no_match}
 use Rattle.sheet.specs.Notes.{taken_back, noted}
 use Rattle.sheet.specs.Searches.{no_search, place_of, match_of}
 use Rattle.sheet.specs.declared.Line.{Line}
-use Rattle.sheet.specs.declared.Match.{Match}
+use Rattle.std.specs.Prelude.{Option, Some}
 use Rattle.sheet.specs.declared.Search.{Search}
 use Rattle.sheet.specs.declared.Note.TheVariants.{Adds, TakesBack}
 use Rattle.receipt.specs.Lines.{adjust_fits, fits}
@@ -35,7 +35,7 @@ use Rattle.history.specs.Sold.{is_like, newest_like, without_newest, match_told,
 use Rattle.history.proofs.Steps.{Free, LineDone, line_done}
 
 -- of every command: what the entries tell of the line that it takes back
-abbrev pub match_in : List Line → View → Match
+abbrev pub match_in : List Line → View → Option ℕ
 match_in ls = of_sale no_match (match_told ls)
 
 -- the record of a line that is done is read as it is
@@ -44,9 +44,9 @@ held lowest limit n low high = rw (le-ltb n lowest low, lt-leb limit n high)
 
 some_quantity : (s : Sale) → fits s ≡ true → 0 < s.quantity
 some_quantity s e =
-    let all = both (ltb s.group 8 && ltb s.price 10000000000 && ltb 0 s.quantity && ltb s.quantity 100000000000) (adjust_fits s.minus s.adjust) e in
-    let four = both (ltb s.group 8 && ltb s.price 10000000000 && ltb 0 s.quantity) (ltb s.quantity 100000000000) all.0 in
-    ltb-true 0 s.quantity (both (ltb s.group 8 && ltb s.price 10000000000) (ltb 0 s.quantity) four.0).1
+    let all = and_parts (ltb s.group 8 && ltb s.price 10000000000 && ltb 0 s.quantity && ltb s.quantity 100000000000) (adjust_fits s.minus s.adjust) e in
+    let four = and_parts (ltb s.group 8 && ltb s.price 10000000000 && ltb 0 s.quantity) (ltb s.quantity 100000000000) all.0 in
+    ltb-true 0 s.quantity (and_parts (ltb s.group 8 && ltb s.price 10000000000) (ltb 0 s.quantity) four.0).1
 
 line_read : (s : Sale) (a : ℕ) → fits s ≡ true → a ≤ 99999999 → read_as (line_of s a) ≡ line_of s a
 line_read s a e small =
@@ -78,7 +78,7 @@ module _ (sheet : List Line) (s : Sale) (none : ℕ) where
   abbrev place : ℕ → ℕ
   place n = newest sheet (line_of s 0) none n
 
-  abbrev brought : ℕ → Match
+  abbrev brought : ℕ → Option ℕ
   brought at = match_at at none (get_or sheet at blank)
 
   abbrev marked : ℕ → List Line
@@ -100,7 +100,7 @@ module _ (sheet : List Line) (s : Sale) (none : ℕ) where
   found-told (l ∷ ls) h k = ap (λ z. brought (cond (is_like z s) (length ls) (place (length ls)))) k.0 ∙ go (found-told ls (omega arith) k.1) (is_like l s)
     where
       go : brought (place (length ls)) ≡ newest_like s ls → (t : Bool)
-          → brought (cond t (length ls) (place (length ls))) ≡ cond t (record { found = true; amount = l.amount }) (newest_like s ls)
+          → brought (cond t (length ls) (place (length ls))) ≡ cond t (Some l.amount) (newest_like s ls)
       go older true = rw (lt-ltb (length ls) none (omega arith), ← k.0)
       go older false = older
 

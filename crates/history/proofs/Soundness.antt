@@ -9,7 +9,7 @@ use Rattle.kinds.specs.declared.Adjust.{Adjust}
 use Rattle.kinds.specs.declared.Command.{Command}
 use Rattle.kinds.specs.declared.Mode.{Mode}
 use Rattle.kinds.specs.declared.Sale.{Sale}
-use Rattle.sheet.specs.declared.Match.{Match}
+use Rattle.std.specs.Prelude.{Option}
 use Rattle.receipt.specs.Receipts.{empty_receipt, group_after, with_line}
 use Rattle.receipt.specs.declared.Receipt.{Receipt}
 use Rattle.shares.specs.Shares.{sum_after}
@@ -39,7 +39,7 @@ use Rattle.history.proofs.Steps.{Free, Step, LineDone, AdjustDone, refused, goes
 
 module _ (b : Books) (k : Kept b) where
   -- a line
-  line-in : (m : Match) (s : Sale) → LineDone b m s → (g : ℕ) → g < 8
+  line-in : (m : Option ℕ) (s : Sale) → LineDone b m s → (g : ℕ) → g < 8
       → at b.day g + at (set b.receipt.groups s.group (group_after b.receipt s m)) g ≤ 999999999999
   line-in m s l =
       set_each (λ g x. g < 8 → at b.day g + x ≤ 999999999999) b.receipt.groups s.group (group_after b.receipt s m)
@@ -124,7 +124,7 @@ module _ (b : Books) (k : Kept b) where
   closed_in g lt = omega (arith, at_eight (with_receipt_of b) g lt, within_eight (with_receipt_of b) k.groups g lt, zeros g)
 
 -- by the views
-staying : (b : Books) → Kept b → (m : Match) (v : View) → Free b m v → Kept (rule_of b m v).after
+staying : (b : Books) → Kept b → (m : Option ℕ) (v : View) → Free b m v → Kept (rule_of b m v).after
 staying b k m Opens f =
     counters-kept (with_receipt b opened.Fiscal empty_receipt) (receipt-kept b k opened.Fiscal empty_receipt (empty-in b k) (omega arith)) _ (omega (arith, k.fiscal)) (omega (arith, few_receipts b f.three))
 staying b k m (Sells s) f =
@@ -161,10 +161,10 @@ staying b k m (Asks when shown) f = k
 pub fresh_is_sound : sound fresh_books ≡ true
 fresh_is_sound = refl
 
-pub step_sound : (b : Books) → sound b ≡ true → (m : Match) (v : View) → Free b m v → sound (rule_of b m v).after ≡ true
+pub step_sound : (b : Books) → sound b ≡ true → (m : Option ℕ) (v : View) → Free b m v → sound (rule_of b m v).after ≡ true
 step_sound b e m v f = whole (rule_of b m v).after (staying b (parts b e) m v f)
 
-pub sound_stays : (b : Books) (m : Match) (c : Command) → sound b ≡ true → sound (carried_out b m c).books ≡ true
+pub sound_stays : (b : Books) (m : Option ℕ) (c : Command) → sound b ≡ true → sound (carried_out b m c).books ≡ true
 sound_stays b m c e = go (taken b m c)
   where
     go : {v : View} {d : Deed} → Step b m v d → sound d.books ≡ true

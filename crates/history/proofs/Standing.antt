@@ -1,4 +1,5 @@
 -- What entries make of the lines that stand: what they come to, where they come from, and how many they are.
+use Rattle.std.proofs.lemmas.Bool.{and_parts}
 use mathlib.Core.Path.{◌≡◌, refl, sym, ap, ◌∙◌, subst}
 use mathlib.Core.Bool.{Bool, true, false, cond, not, ◌&&◌, false≢true}
 use mathlib.Core.List.{List, [], ◌∷◌, ◌++◌}
@@ -8,12 +9,11 @@ use native.Mathlib.Omega.{arith}
 use lib.Dec.{ltb, eqb}
 use lib.ListN.{length}
 use borrow.Author.Tests.{ltb-true, ltb-false, eq-eqb, eqb-true, not-true}
-use Rattle.basics.proofs.Tests.{both}
 use Rattle.kinds.specs.declared.Adjust.{Adjust}
 use Rattle.kinds.specs.declared.Sale.{Sale}
 use Rattle.sheet.specs.Sheet.{line_of, no_match}
 use Rattle.sheet.specs.declared.Line.{Line}
-use Rattle.sheet.specs.declared.Match.{Match}
+use Rattle.std.specs.Prelude.{Option, is_some, unwrap_or}
 use Rattle.receipt.specs.Lines.{product_of, finished_of}
 use Rattle.shares.specs.Shares.{is_less, more_or_less}
 use Rattle.rules.specs.Views.{of_sale}
@@ -29,10 +29,10 @@ use Rattle.history.proofs.Sheets.{as_many, count_more}
 -- what a line makes of a group; `off` are its discounts, `on` its surcharges
 module _ (x : Sale) (ls : List Line) (g sum off on : ℕ) where
   abbrev amount_if : Bool → ℕ
-  amount_if minus = cond minus (cond {A = Match} minus (newest_like x ls) no_match).amount (finished_of (product_of x) x.adjust)
+  amount_if minus = cond minus (unwrap_or (cond {A = Option ℕ} minus (newest_like x ls) no_match) 0) (finished_of (product_of x) x.adjust)
 
-  line-worth : (minus same : Bool) → sum + off ≡ worth_of g ls + on → worth_of g (without_newest x ls) + cond same (newest_like x ls).amount 0 ≡ worth_of g ls
-      → (minus ≡ true → same ≡ true → (newest_like x ls).amount ≤ sum)
+  line-worth : (minus same : Bool) → sum + off ≡ worth_of g ls + on → worth_of g (without_newest x ls) + cond same (unwrap_or (newest_like x ls) 0) 0 ≡ worth_of g ls
+      → (minus ≡ true → same ≡ true → unwrap_or (newest_like x ls) 0 ≤ sum)
       → sum + cond (same && not minus) (amount_if minus) 0 - cond (same && minus) (amount_if minus) 0 + (off + 0)
       ≡ cond (not minus && same) (amount_if minus) 0 + worth_of g (cond minus (without_newest x ls) ls) + (on + 0)
   line-worth true true e w covered = omega (arith, covered refl refl)
@@ -57,7 +57,7 @@ Balanced g es v shown =
 
 -- what is known of a line with `-`, and of a discount, that is done: it is covered
 pub record Covered (r : ReceiptTold) (v : View) : Type 0 where
-  pub line : (x : Sale) → v ≡ Sells x → x.minus ≡ true → (newest_like x r.sold).amount ≤ r.sums x.group
+  pub line : (x : Sale) → v ≡ Sells x → x.minus ≡ true → unwrap_or (newest_like x r.sold) 0 ≤ r.sums x.group
   pub discount : (a : Adjust) → v ≡ Adjusts a → is_less a ≡ true → (g : ℕ) → share_told g r a ≤ r.sums g
 
 pub balanced : (es : List Entry) (g : ℕ) → (figures_of es).receipt.sums g + discounts_in g es ≡ worth_of g (lines_in es) + surcharges_in g es
@@ -66,7 +66,7 @@ balanced es g e Opens shown c = refl
 balanced es g e (Sells x) shown c =
     let r = (figures_of es).receipt in
     line-worth x r.sold g (r.sums g) (discounts_in g es) (surcharges_in g es) x.minus (eqb x.group g) e (worth_less x g r.sold)
-    (λ minus same. subst (λ i. (newest_like x r.sold).amount ≤ r.sums i) (eqb-true x.group g same) (c.line x refl minus))
+    (λ minus same. subst (λ i. unwrap_or (newest_like x r.sold) 0 ≤ r.sums i) (eqb-true x.group g same) (c.line x refl minus))
 balanced es g e (Adjusts a) shown c =
     let r = (figures_of es).receipt in
     adjust_worth (is_less a) (r.sums g) (share_told g r a) (worth_of g r.sold) (discounts_in g es) (surcharges_in g es) e (λ less. c.discount a refl less g)
@@ -81,8 +81,8 @@ balanced es g e (Takes n) shown c = omega arith
 balanced es g e (Asks when shown') shown c = omega arith
 
 -- a line found is among those that stand
-pub worth_covers : (x : Sale) (ls : List Line) (minus : Bool) → (cond {A = Match} minus (newest_like x ls) no_match).amount ≤ worth_of x.group ls
-worth_covers x ls true = omega (arith, worth_less x x.group ls, ap (λ t. cond t (newest_like x ls).amount 0) (eq-eqb x.group x.group refl))
+pub worth_covers : (x : Sale) (ls : List Line) (minus : Bool) → unwrap_or (cond {A = Option ℕ} minus (newest_like x ls) no_match) 0 ≤ worth_of x.group ls
+worth_covers x ls true = omega (arith, worth_less x x.group ls, ap (λ t. cond t (unwrap_or (newest_like x ls) 0) 0) (eq-eqb x.group x.group refl))
 worth_covers x ls false = omega arith
 
 -- while the receipt is the same, its lines stay in their places, and each is as it was or is taken back
@@ -116,7 +116,7 @@ module _ (es : List Entry) (i : ℕ) (lt : i < length (lines_in es)) (back : (li
       → (i < length (lines_in (later ++ es))) × (line_at i (lines_in (later ++ es)) ≡ line_at i (lines_in es))
   still_back [] e = (lt, refl)
   still_back (n ∷ later) e =
-      let parts = both (not (is_another (did_of n))) (same_receipt later) e in
+      let parts = and_parts (not (is_another (did_of n))) (same_receipt later) e in
       let before = still_back later parts.1 in
       let now = line_after (figures_of (later ++ es)).receipt (did_of n) n.shown (not-true (is_another (did_of n)) parts.0) i before.0 in (
         now.0,
@@ -138,7 +138,7 @@ module _ (e : Entry) (es : List Entry) (older : (i : ℕ) → i < length (lines_
   new_line : (x : Sale) → did_of e ≡ Sells x → (l : Line) → l ≡ line_of x (amount_told (lines_in es) x) → l.stands ≡ true → AddedBy l (e ∷ es)
   new_line x is l same stands =
       let plus : x.minus ≡ false = not-true x.minus (sym (ap (λ (z : Line). z.stands) same) ∙ stands) in
-      by_newest x is plus (same ∙ ap (λ t. line_of x (cond t (cond {A = Match} t (newest_like x (lines_in es)) no_match).amount (finished_of (product_of x) x.adjust))) plus)
+      by_newest x is plus (same ∙ ap (λ t. line_of x (cond t (unwrap_or (cond {A = Option ℕ} t (newest_like x (lines_in es)) no_match) 0) (finished_of (product_of x) x.adjust))) plus)
 
   sold-line : (x : Sale) → did_of e ≡ Sells x → (i : ℕ) → i < length (now (Sells x)) → (line_at i (now (Sells x))).stands ≡ true → AddedBy (line_at i (now (Sells x))) (e ∷ es)
   sold-line x is i lt stands = go (ltb i (length (lines_in es))) refl
@@ -174,8 +174,8 @@ module _ (es : List Entry) (e : Entry) (x : Sale) (is : did_of e ≡ Sells x) (m
   abbrev amount : ℕ
   amount = amount_told (lines_in es) x
 
-  amount-found : amount ≡ (newest_like x (lines_in es)).amount
-  amount-found = ap (λ t. cond t (cond {A = Match} t (newest_like x (lines_in es)) no_match).amount (finished_of (product_of x) x.adjust)) minus
+  amount-found : amount ≡ unwrap_or (newest_like x (lines_in es)) 0
+  amount-found = ap (λ t. cond t (unwrap_or (cond {A = Option ℕ} t (newest_like x (lines_in es)) no_match) 0) (finished_of (product_of x) x.adjust)) minus
 
   lines_then : lines_in (e ∷ es) ≡ line_of x amount ∷ without_newest x (lines_in es)
   lines_then =
@@ -186,19 +186,19 @@ module _ (es : List Entry) (e : Entry) (x : Sale) (is : did_of e ≡ Sells x) (m
       ap (line_at i) lines_then ∙ at_older (line_of x amount) (without_newest x (lines_in es)) i (λ z. omega (arith, z, as_many x (lines_in es)))
 
   -- its group, where it is this one and where not
-  sum_then : (g : ℕ) → (same : Bool) → (same ≡ true → (newest_like x (lines_in es)).amount ≤ (figures_of es).receipt.sums g)
-      → (figures_of es).receipt.sums g + cond (same && not x.minus) amount 0 - cond (same && x.minus) amount 0 + cond same (newest_like x (lines_in es)).amount 0
+  sum_then : (g : ℕ) → (same : Bool) → (same ≡ true → unwrap_or (newest_like x (lines_in es)) 0 ≤ (figures_of es).receipt.sums g)
+      → (figures_of es).receipt.sums g + cond (same && not x.minus) amount 0 - cond (same && x.minus) amount 0 + cond same (unwrap_or (newest_like x (lines_in es)) 0) 0
       ≡ (figures_of es).receipt.sums g
   sum_then g true covered = omega (arith, covered refl, amount-found, ap (λ t. cond (not t) amount 0) minus, ap (λ t. cond t amount 0) minus)
   sum_then g false covered = omega arith
 
-  amount-then : (newest_like x (lines_in es)).amount ≤ (figures_of es).receipt.sums x.group → (g : ℕ)
-      → (figures_of (e ∷ es)).receipt.sums g + cond (eqb x.group g) (newest_like x (lines_in es)).amount 0 ≡ (figures_of es).receipt.sums g
+  amount-then : unwrap_or (newest_like x (lines_in es)) 0 ≤ (figures_of es).receipt.sums x.group → (g : ℕ)
+      → (figures_of (e ∷ es)).receipt.sums g + cond (eqb x.group g) (unwrap_or (newest_like x (lines_in es)) 0) 0 ≡ (figures_of es).receipt.sums g
   amount-then covered g =
-      ap (λ v. (receipt_after v e.shown (figures_of es).receipt).sums g + cond (eqb x.group g) (newest_like x (lines_in es)).amount 0) is
-      ∙ sum_then g (eqb x.group g) (λ same. subst (λ i. (newest_like x (lines_in es)).amount ≤ (figures_of es).receipt.sums i) (eqb-true x.group g same) covered)
+      ap (λ v. (receipt_after v e.shown (figures_of es).receipt).sums g + cond (eqb x.group g) (unwrap_or (newest_like x (lines_in es)) 0) 0) is
+      ∙ sum_then g (eqb x.group g) (λ same. subst (λ i. unwrap_or (newest_like x (lines_in es)) 0 ≤ (figures_of es).receipt.sums i) (eqb-true x.group g same) covered)
 
-  pub took : (newest_like x (lines_in es)).found ≡ true → (newest_like x (lines_in es)).amount ≤ (figures_of es).receipt.sums x.group → TookBack x es (e ∷ es)
+  pub took : is_some (newest_like x (lines_in es)) ≡ true → unwrap_or (newest_like x (lines_in es)) 0 ≤ (figures_of es).receipt.sums x.group → TookBack x es (e ∷ es)
   took found covered =
       let f = found_in x (lines_in es) found in
       let like = like_parts (line_at f.place (lines_in es)) x f.like in
@@ -217,7 +217,7 @@ module _ (es : List Entry) (e : Entry) (x : Sale) (is : did_of e ≡ Sells x) (m
       }
 
 -- one that is like no line finds none
-pub none_found : (x : Sale) (ls : List Line) → ((i : ℕ) → i < length ls → is_like (line_at i ls) x ≡ false) → (t : Bool) → (newest_like x ls).found ≡ t → t ≡ false
+pub none_found : (x : Sale) (ls : List Line) → ((i : ℕ) → i < length ls → is_like (line_at i ls) x ≡ false) → (t : Bool) → is_some (newest_like x ls) ≡ t → t ≡ false
 none_found x ls none true e =
     let f = found_in x ls e in
     sym f.like ∙ none f.place f.among
@@ -231,14 +231,14 @@ abbrev pub Counted : List Entry → View → List ℕ → Type 0
 Counted es v shown =
     standing (receipt_after v shown (figures_of es).receipt).sold + lines_after (λ s. s.minus) es v ≡ lines_after (λ s. not s.minus) es v
 
-one_more_lem : (x : Sale) (ls : List Line) (off added : ℕ) (minus : Bool) → standing ls + off ≡ added → (minus ≡ true → (newest_like x ls).found ≡ true)
+one_more_lem : (x : Sale) (ls : List Line) (off added : ℕ) (minus : Bool) → standing ls + off ≡ added → (minus ≡ true → is_some (newest_like x ls) ≡ true)
     → cond (not minus) 1 0 + standing (cond minus (without_newest x ls) ls) + (off + cond minus 1 0) ≡ added + cond (not minus) 1 0
 one_more_lem x ls off added true e found = omega (arith, one_fewer x ls (found refl))
 one_more_lem x ls off added false e found = omega arith
 
 -- by the views; a line with `-` is done only where one is found
 pub counted : (es : List Entry) → standing (lines_in es) + lines_off es ≡ lines_added es → (v : View) (shown : List ℕ)
-    → ((x : Sale) → v ≡ Sells x → x.minus ≡ true → (newest_like x (lines_in es)).found ≡ true) → Counted es v shown
+    → ((x : Sale) → v ≡ Sells x → x.minus ≡ true → is_some (newest_like x (lines_in es)) ≡ true) → Counted es v shown
 counted es e Opens shown found = refl
 counted es e (Sells x) shown found = one_more_lem x (lines_in es) (lines_off es) (lines_added es) x.minus e (found x refl)
 counted es e (Adjusts a) shown found = omega arith

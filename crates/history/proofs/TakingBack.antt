@@ -9,7 +9,7 @@ use lib.ListN.{length}
 use Rattle.kinds.specs.declared.Command.TheVariants.{Sell}
 use Rattle.kinds.specs.declared.Sale.{Sale}
 use Rattle.sheet.specs.Sheet.{no_match}
-use Rattle.sheet.specs.declared.Match.{Match}
+use Rattle.std.specs.Prelude.{is_some, unwrap_or}
 use Rattle.receipt.specs.Lines.{product_of, too_much_off}
 use Rattle.receipt.specs.Receipts.{not_permitted}
 use Rattle.receipt.proofs.Adjusting.{fits_parts}
@@ -46,14 +46,14 @@ module _ (es : List Entry) (s : Store) (x : Sale) (k : Reached s.books) (h : Agr
   told : match_for s (Sells x) ≡ newest_like x (lines_in es)
   told = match_for_lem es s k h (Sells x) ∙ ap (λ t. cond t (newest_like x (lines_in es)) no_match) minus
 
-  found : Free s.books (match_for s (Sells x)) (Sells x) → (newest_like x (lines_in es)).found ≡ true
-  found free = ap (λ (m : Match). m.found) (sym told) ∙ (line_done s.books (match_for s (Sells x)) x free).found minus
+  found : Free s.books (match_for s (Sells x)) (Sells x) → is_some (newest_like x (lines_in es)) ≡ true
+  found free = ap is_some (sym told) ∙ (line_done s.books (match_for s (Sells x)) x free).found minus
 
   -- and its group has at least that
-  covered : Free s.books (match_for s (Sells x)) (Sells x) → (newest_like x (lines_in es)).amount ≤ (figures_of es).receipt.sums x.group
+  covered : Free s.books (match_for s (Sells x)) (Sells x) → unwrap_or (newest_like x (lines_in es)) 0 ≤ (figures_of es).receipt.sums x.group
   covered free =
       let done = line_done s.books (match_for s (Sells x)) x free in
-      omega (arith, ap (λ (m : Match). m.amount) (sym told), done.covered minus, h.books.receipt.groups x.group (fits_parts x done.fields).0)
+      omega (arith, ap (λ m. unwrap_or m 0) (sym told), done.covered minus, h.books.receipt.groups x.group (fits_parts x done.fields).0)
 
 -- 3 by the last of its reasons, that there is no line to take back
 last_reason : (a b : Bool) → b ≡ true → a || b ≡ true
@@ -92,12 +92,12 @@ what_nobody_sold_is_refused es s x k h given minus none =
     let b = s.books in
     let m = match_for s (Sells x) in
     let enabled = is_enabled (rate_in b x.group) in
-    let below = ltb (at b.receipt.groups x.group) m.amount in
-    let missing : m.found ≡ false =
-    ap (λ (m : Match). m.found) (told es s x k h minus) ∙ none_found x (lines_in es) none (newest_like x (lines_in es)).found refl in
+    let below = ltb (at b.receipt.groups x.group) (unwrap_or m 0) in
+    let missing : is_some m ≡ false =
+    ap is_some (told es s x k h minus) ∙ none_found x (lines_in es) none (is_some (newest_like x (lines_in es))) refl in
     number_three b (rule_of b m (Sells x)) (given.one b m)
     (last_reason (none_open b) (not_permitted b.receipt x m enabled)
-    (last_reason (b.receipt.tried || leb 512 b.receipt.lines || not enabled || too_much_off (product_of x) x.adjust) (x.minus && (not m.found || below)) (no_line x.minus m.found below minus missing)))
+    (last_reason (b.receipt.tried || leb 512 b.receipt.lines || not enabled || too_much_off (product_of x) x.adjust) (x.minus && (not (is_some m) || below)) (no_line x.minus (is_some m) below minus missing)))
 
 -- a line that stands was sold by an entry of this receipt, whatever the entries are
 pub what_stands_was_sold : (es : List Entry) (i : ℕ) → i < length (lines_in es) → (line_at i (lines_in es)).stands ≡ true → AddedBy (line_at i (lines_in es)) es
@@ -153,6 +153,6 @@ the_groups_are_what_stands {es} past g lt = ap (λ n. n + discounts_in g es) ((h
 
 -- what a line found had added is there to be taken off, but for what discounts took off its group since: only they can make it 3
 pub a_line_found_is_covered : {es : List Entry} {s : Store} (x : Sale) → LeadsTo es s → x.group < 8
-    → (match_for s (Sells x)).amount ≤ at s.books.receipt.groups x.group + discounts_in x.group es
+    → unwrap_or (match_for s (Sells x)) 0 ≤ at s.books.receipt.groups x.group + discounts_in x.group es
 a_line_found_is_covered {es} {s} x past lt =
-    omega (arith, worth_covers x (lines_in es) x.minus, ap (λ (m : Match). m.amount) (match_for_lem es s (history_reached past) (history_agrees past) (Sells x)), the_groups_are_what_stands past x.group lt)
+    omega (arith, worth_covers x (lines_in es) x.minus, ap (λ m. unwrap_or m 0) (match_for_lem es s (history_reached past) (history_agrees past) (Sells x)), the_groups_are_what_stands past x.group lt)

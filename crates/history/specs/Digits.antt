@@ -1,7 +1,6 @@
 -- PROTOCOL 8.2: every field that an answer shows, within its digits.
-use Rattle.std.specs.Prelude.{ℕ, ◌^◌, ◌<◌, ◌≡◌, false}
+use Rattle.std.specs.Prelude.{ℕ, ◌^◌, ◌<◌, ◌≡◌, false, Option}
 use Rattle.amounts.specs.Amounts.{tax_of}
-use Rattle.sheet.specs.declared.Match.{Match}
 use Rattle.books.specs.Groups.{at}
 use Rattle.books.specs.declared.Books.{Books}
 use Rattle.books.specs.declared.Shown.{Shown}
@@ -40,5 +39,5 @@ left_of shown.Rates = 0
 
 -- DECISIONS 57, 58: a command as data gives it: no number that is 1, and where it only asks neither rest nor change is shown
 pub record Given (v : View) : Type 0 where
-  pub one : (b : Books) (m : Match) → (rule_of b m v).one ≡ false
+  pub one : (b : Books) (m : Option ℕ) → (rule_of b m v).one ≡ false
   pub rest : of_asked 0 left_of v ≡ 0

@@ -1,19 +1,18 @@
 // The fields of a command (PROTOCOL chapter 5).
-ghost use Rattle.std.specs.Prelude.{◌≡◌, cond};
-ghost use Rattle.items.specs.Items.{no_item};
+ghost use Rattle.std.specs.Prelude.{◌≡◌, None, cond};
+ghost use Rattle.items.specs.declared.Value.TheVariants.{Said};
 ghost use Rattle.items.specs.Asked.{asked_of, fields_of, operator_fields, till_item, password_item, sale_fields, adjusted, flags, pay_fields, mode_saying, tendered, drawer_fields, asks_for, alone};
 
-use crate::{Four, Item, Label, Saying, Value, no_item};
-use kinds::{Adjust, Command, Mode, Parsed, Password, Payment, Sale, Service, Tender};
+use crate::{Four, Item, Label, Saying, Value, labelled};
+use kinds::{Adjust, Command, Mode, Password, Payment, Sale, Service, Tender, Unread};
 
 // Those of a command that was read; none where its data is not of its form, or there is no such command.
-pub fn asked_of(parsed: Parsed) -> Four
+pub fn asked_of(parsed: Result<Command, Unread>) -> Four
     ensures { result ≡ asked_of parsed }
 {
     match parsed {
-        Parsed::Read(c) => fields_of(c),
-        Parsed::Syntax => no_fields(),
-        Parsed::Unknown => no_fields(),
+        Ok(c) => fields_of(c),
+        Err(_) => no_fields(),
     }
 }
 
@@ -21,9 +20,6 @@ fn fields_of(command: Command) -> Four
     ensures { result ≡ fields_of command }
 {
     match command {
-        Command::OpenText => no_fields(),
-        Command::CloseText => no_fields(),
-        Command::PrintText => no_fields(),
         Command::Open { op, password, till } => operator_fields(op, password, till_item(till)),
         Command::Sell(s) => sale_fields(s),
         Command::Subtotal {
@@ -32,203 +28,132 @@ fn fields_of(command: Command) -> Four
             adjust,
         } => flags(print, show, adjusted(adjust)),
         Command::Pay(p) => pay_fields(p),
-        Command::Close => no_fields(),
-        Command::Cancel => no_fields(),
         Command::Sums { taxes } => asks_for(taxes, Saying::Taxes, Saying::DaySums),
         Command::Closing { clears } => asks_for(clears, Saying::Closing, Saying::Report),
         Command::Drawer(s) => drawer_fields(s),
-        Command::Status => no_fields(),
-        Command::Rates => no_fields(),
-        Command::ShowText => no_fields(),
         Command::ChangePassword { op, old, new } => {
             operator_fields(op, old, password_item(Label::NewPassword, new))
         }
-        Command::ChangeName { op, password } => operator_fields(op, password, no_item()),
+        Command::ChangeName { op, password } => operator_fields(op, password, None),
+        Command::OpenText
+        | Command::CloseText
+        | Command::PrintText
+        | Command::Close
+        | Command::Cancel
+        | Command::Status
+        | Command::Rates
+        | Command::ShowText => no_fields(),
     }
 }
 
 fn no_fields() -> Four
-    ensures { result ≡ alone no_item }
+    ensures { result ≡ alone None }
 {
-    alone(no_item())
+    alone(None)
 }
 
 // One line.
-fn alone(first: Item) -> Four
+fn alone(first: Option<Item>) -> Four
     ensures { result ≡ alone first }
 {
-    let none = no_item();
-    Four {
-        first,
-        second: none,
-        third: none,
-        fourth: none,
-    }
+    [first, None, None, None]
 }
 
 // 48, 101 and 102: the third of 48 is the till, of 101 the new password.
-fn operator_fields(op: u64, password: Password, third: Item) -> Four
+fn operator_fields(op: u64, password: Password, third: Option<Item>) -> Four
     ensures { result ≡ operator_fields op password third }
 {
-    let second = password_item(Label::Password, password);
-    let none = no_item();
-    Four {
-        first: Item {
-            label: Label::Operator,
-            value: Value::Number(op),
-        },
-        second,
+    [
+        labelled(Label::Operator, Value::Number(op)),
+        password_item(Label::Password, password),
         third,
-        fourth: none,
-    }
+        None,
+    ]
 }
 
-fn till_item(till: u64) -> Item
+fn till_item(till: u64) -> Option<Item>
     ensures { result ≡ till_item till }
 {
-    Item {
-        label: Label::TillNumber,
-        value: Value::Number(till),
-    }
+    labelled(Label::TillNumber, Value::Number(till))
 }
 
 // As many digits as were sent.
-fn password_item(label: Label, password: Password) -> Item
+fn password_item(label: Label, password: Password) -> Option<Item>
     ensures { result ≡ password_item label password }
 {
-    Item {
-        label,
-        value: Value::Digits {
-            width: password.digits,
-            number: password.value,
-        },
-    }
+    let value = Value::Digits {
+        width: password.digits,
+        number: password.value,
+    };
+    labelled(label, value)
 }
 
 // 49: the group's letter, and whether the line is taken back.
 fn sale_fields(s: Sale) -> Four
     ensures { result ≡ sale_fields s }
 {
-    let adjust = s.adjust;
-    let fourth = adjusted(adjust);
-    let letter = Value::Letter(65 + (s.group % 8) as u8);
-    let second = Item {
-        label: Label::Price,
-        value: Value::Sum(s.price),
+    let label = if s.minus {
+        Label::TakenBack
+    } else {
+        Label::Group
     };
-    let third = Item {
-        label: Label::Quantity,
-        value: Value::Thousandths(s.quantity),
-    };
-    if s.minus {
-        let first = Item {
-            label: Label::TakenBack,
-            value: letter,
-        };
-        return Four {
-            first,
-            second,
-            third,
-            fourth,
-        };
-    }
-    let first = Item {
-        label: Label::Group,
-        value: letter,
-    };
-    Four {
-        first,
-        second,
-        third,
-        fourth,
-    }
+    [
+        labelled(label, Value::Letter(65 + (s.group % 8) as u8)),
+        labelled(Label::Price, Value::Sum(s.price)),
+        labelled(Label::Quantity, Value::Thousandths(s.quantity)),
+        adjusted(s.adjust),
+    ]
 }
 
 // What is done to the line behind its product, or to the whole receipt.
-fn adjusted(adjust: Adjust) -> Item
+fn adjusted(adjust: Adjust) -> Option<Item>
     ensures { result ≡ adjusted adjust }
 {
     match adjust {
-        Adjust::Nothing => no_item(),
-        Adjust::PercentMore(p) => Item {
-            label: Label::PercentMore,
-            value: Value::Sum(p),
-        },
-        Adjust::PercentLess(p) => Item {
-            label: Label::PercentLess,
-            value: Value::Sum(p),
-        },
-        Adjust::AmountMore(a) => Item {
-            label: Label::AmountMore,
-            value: Value::Sum(a),
-        },
-        Adjust::AmountLess(a) => Item {
-            label: Label::AmountLess,
-            value: Value::Sum(a),
-        },
+        Adjust::Nothing => None,
+        Adjust::PercentMore(p) => labelled(Label::PercentMore, Value::Sum(p)),
+        Adjust::PercentLess(p) => labelled(Label::PercentLess, Value::Sum(p)),
+        Adjust::AmountMore(a) => labelled(Label::AmountMore, Value::Sum(a)),
+        Adjust::AmountLess(a) => labelled(Label::AmountLess, Value::Sum(a)),
     }
 }
 
 // 51: the third is what is done to the receipt.
-fn flags(print: bool, show: bool, third: Item) -> Four
+fn flags(print: bool, show: bool, third: Option<Item>) -> Four
     ensures { result ≡ flags print show third }
 {
-    let prints = answer_to(print, Saying::Yes, Saying::No);
-    let shows = answer_to(show, Saying::Yes, Saying::No);
-    let none = no_item();
-    Four {
-        first: Item {
-            label: Label::Prints,
-            value: Value::Said(prints),
-        },
-        second: Item {
-            label: Label::Shows,
-            value: Value::Said(shows),
-        },
+    [
+        labelled(Label::Prints, answer_to(print, Saying::Yes, Saying::No)),
+        labelled(Label::Shows, answer_to(show, Saying::Yes, Saying::No)),
         third,
-        fourth: none,
-    }
+        None,
+    ]
 }
 
 // One of two.
-fn answer_to(which: bool, this: Saying, that: Saying) -> Saying
-    ensures { result ≡ cond which this that }
+fn answer_to(which: bool, this: Saying, that: Saying) -> Value
+    ensures { result ≡ Said (cond which this that) }
 {
-    if which {
-        return this;
-    }
-    that
+    Value::Said(if which { this } else { that })
 }
 
 // 65 and 69: one of two things.
 fn asks_for(which: bool, this: Saying, that: Saying) -> Four
     ensures { result ≡ asks_for which this that }
 {
-    let said = answer_to(which, this, that);
-    alone(Item {
-        label: Label::AsksFor,
-        value: Value::Said(said),
-    })
+    alone(labelled(Label::AsksFor, answer_to(which, this, that)))
 }
 
 // 53.
 fn pay_fields(p: Payment) -> Four
     ensures { result ≡ pay_fields p }
 {
-    let mode = p.mode;
-    let tender = p.tender;
-    let said = mode_saying(mode);
-    let second = tendered(tender);
-    let none = no_item();
-    Four {
-        first: Item {
-            label: Label::PaidIn,
-            value: Value::Said(said),
-        },
-        second,
-        third: none,
-        fourth: none,
-    }
+    [
+        labelled(Label::PaidIn, Value::Said(mode_saying(p.mode))),
+        tendered(p.tender),
+        None,
+        None,
+    ]
 }
 
 fn mode_saying(mode: Mode) -> Saying
@@ -243,18 +168,12 @@ fn mode_saying(mode: Mode) -> Saying
     }
 }
 
-fn tendered(tender: Tender) -> Item
+fn tendered(tender: Tender) -> Option<Item>
     ensures { result ≡ tendered tender }
 {
     match tender {
-        Tender::Rest => Item {
-            label: Label::Amount,
-            value: Value::Said(Saying::WholeRest),
-        },
-        Tender::Amount(n) => Item {
-            label: Label::Amount,
-            value: Value::Sum(n),
-        },
+        Tender::Rest => labelled(Label::Amount, Value::Said(Saying::WholeRest)),
+        Tender::Amount(n) => labelled(Label::Amount, Value::Sum(n)),
     }
 }
 
@@ -262,18 +181,9 @@ fn tendered(tender: Tender) -> Item
 fn drawer_fields(service: Service) -> Four
     ensures { result ≡ drawer_fields service }
 {
-    match service {
-        Service::Report => alone(Item {
-            label: Label::AsksFor,
-            value: Value::Said(Saying::Report),
-        }),
-        Service::In(n) => alone(Item {
-            label: Label::PutIn,
-            value: Value::Sum(n),
-        }),
-        Service::Out(n) => alone(Item {
-            label: Label::TakenOut,
-            value: Value::Sum(n),
-        }),
-    }
+    alone(match service {
+        Service::Report => labelled(Label::AsksFor, Value::Said(Saying::Report)),
+        Service::In(n) => labelled(Label::PutIn, Value::Sum(n)),
+        Service::Out(n) => labelled(Label::TakenOut, Value::Sum(n)),
+    })
 }

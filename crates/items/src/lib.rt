@@ -5,7 +5,7 @@ pub mod asked;
 
 ghost use Rattle.std.specs.Prelude.{◌≡◌, cond, eqb};
 ghost use Rattle.items.specs.declared.Kind.TheVariants.{Done, Refused};
-ghost use Rattle.items.specs.Items.{no_item, is_none, kind_of, place_items, broken_items, cut_items, came_item, part_saying, expected_value};
+ghost use Rattle.items.specs.Items.{labelled, kind_of, place_items, broken_items, cut_items, came_item, part_saying, expected_item};
 
 use expecting::{Expected, Part};
 use line::Call;
@@ -81,7 +81,6 @@ pub enum Saying {
 // one to another; those that stand in data.
 #[derive(Clone, Copy)]
 pub enum Value {
-    Nothing,
     Number(u64),
     Sum(u64),
     Thousandths(u64),
@@ -93,7 +92,7 @@ pub enum Value {
     Said(Saying),
 }
 
-// A line; with the value Nothing there is none.
+// A line.
 #[derive(Clone, Copy)]
 pub struct Item {
     pub label: Label,
@@ -101,13 +100,7 @@ pub struct Item {
 }
 
 // Up to four lines.
-#[derive(Clone, Copy)]
-pub struct Four {
-    pub first: Item,
-    pub second: Item,
-    pub third: Item,
-    pub fourth: Item,
-}
+pub type Four = [Option<Item>; 4];
 
 // What became of a frame, or of bytes outside frames.
 #[derive(Clone, Copy)]
@@ -128,11 +121,7 @@ pub fn kind_of(call: Call, number: u64) -> Kind
         Call::Quiet => Kind::Skipped,
         Call::Nak => Kind::Broken,
         Call::Again => Kind::Repeat,
-        Call::Order {
-            seq: _,
-            code: _,
-            count: _,
-        } => done_or_refused(number),
+        Call::Order { .. } => done_or_refused(number),
     }
 }
 
@@ -140,25 +129,29 @@ fn done_or_refused(number: u64) -> Kind
     ensures { result ≡ cond (eqb number 0) Done Refused }
 {
     if number == 0 {
-        return Kind::Done;
+        Kind::Done
+    } else {
+        Kind::Refused
     }
-    Kind::Refused
+}
+
+// One line.
+fn labelled(label: Label, value: Value) -> Option<Item>
+    ensures { result ≡ labelled label value }
+{
+    Some(Item { label, value })
 }
 
 // The byte that broke a frame; 01h begins the next one.
-fn came_item(byte: u8) -> Item
+fn came_item(byte: u8) -> Option<Item>
     ensures { result ≡ came_item byte }
 {
-    if byte == 0x01 {
-        return Item {
-            label: Label::CameAnew,
-            value: Value::Byte(byte),
-        };
-    }
-    Item {
-        label: Label::Came,
-        value: Value::Byte(byte),
-    }
+    let label = if byte == 0x01 {
+        Label::CameAnew
+    } else {
+        Label::Came
+    };
+    labelled(label, Value::Byte(byte))
 }
 
 // A frame that broke: the byte, its place behind 01h, counted from 1, what was expected there, and what that is called.
@@ -172,47 +165,32 @@ pub fn broken_items(count: u8, byte: u8, expected: Expected) -> Four
 pub fn cut_items(count: u8, expected: Expected) -> Four
     ensures { result ≡ cut_items count expected }
 {
-    place_items(no_item(), count, expected)
+    place_items(None, count, expected)
 }
 
-fn place_items(first: Item, count: u8, expected: Expected) -> Four
+fn place_items(first: Option<Item>, count: u8, expected: Expected) -> Four
     ensures { result ≡ place_items first count expected }
 {
-    let part = expected.part;
-    let value = expected_value(part, expected.least, expected.most);
-    let said = part_saying(part);
-    Four {
+    [
         first,
-        second: Item {
-            label: Label::Place,
-            value: Value::Number(count as u64 + 1),
-        },
-        third: Item {
-            label: Label::Expected,
-            value,
-        },
-        fourth: Item {
-            label: Label::Part,
-            value: Value::Said(said),
-        },
-    }
+        labelled(Label::Place, Value::Number(count as u64 + 1)),
+        expected_item(expected),
+        labelled(Label::Part, Value::Said(part_saying(expected.part))),
+    ]
 }
 
-// The bytes that suit.
-fn expected_value(part: Part, least: u8, most: u8) -> Value
-    ensures { result ≡ expected_value part least most }
+// The bytes that suit, where any do.
+fn expected_item(expected: Expected) -> Option<Item>
+    ensures { result ≡ expected_item expected }
 {
-    match part {
-        Part::Start => Value::Byte(least),
-        Part::Len => Value::Bytes { least, most },
-        Part::Seq => Value::Bytes { least, most },
-        Part::Cmd => Value::Bytes { least, most },
+    let Expected { part, least, most } = expected;
+    let value = match part {
+        Part::Start | Part::Five | Part::Bcc | Part::End => Value::Byte(least),
+        Part::Len | Part::Seq | Part::Cmd => Value::Bytes { least, most },
         Part::Data => Value::InData,
-        Part::Five => Value::Byte(least),
-        Part::Bcc => Value::Byte(least),
-        Part::End => Value::Byte(least),
-        Part::Nothing => Value::Nothing,
-    }
+        Part::Nothing => return None,
+    };
+    labelled(Label::Expected, value)
 }
 
 fn part_saying(part: Part) -> Saying
@@ -228,36 +206,5 @@ fn part_saying(part: Part) -> Saying
         Part::Bcc => Saying::Bcc,
         Part::End => Saying::End,
         Part::Nothing => Saying::Nothing,
-    }
-}
-
-// No line.
-pub fn no_item() -> Item
-    ensures { result ≡ no_item }
-{
-    Item {
-        label: Label::Frame,
-        value: Value::Nothing,
-    }
-}
-
-// Whether there is a value, and so a line.
-pub fn is_none(value: Value) -> bool
-    ensures { result ≡ is_none value }
-{
-    match value {
-        Value::Nothing => true,
-        Value::Number(_) => false,
-        Value::Sum(_) => false,
-        Value::Thousandths(_) => false,
-        Value::Digits {
-            width: _,
-            number: _,
-        } => false,
-        Value::Letter(_) => false,
-        Value::Byte(_) => false,
-        Value::Bytes { least: _, most: _ } => false,
-        Value::InData => false,
-        Value::Said(_) => false,
     }
 }

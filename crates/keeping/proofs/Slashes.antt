@@ -1,54 +1,24 @@
--- The last b of a list, looked for from the front: what was found so far, unless a later one stands in what is left.
-use mathlib.Core.Path.{◌≡◌, refl, sym, ap, ◌∙◌}
-use mathlib.Core.Bool.{Bool, true, false, cond}
-use mathlib.Core.List.{List, ◌∷◌}
-use Prim.Native.Nat.{ℕ, zero, suc, ◌+◌, ◌≤◌, ◌<◌}
-use native.Mathlib.Numerals.{add-one}
-use native.Mathlib.Omega.{arith}
+-- The last b of a list, by its place.
+use Rattle.std.proofs.Common.{◌≡◌, ◌≢◌, ℕ, zero, suc, ◌+◌, ◌<◌, ◌≤◌, Bool, true, false, cond, List, [], ◌∷◌, length, get_or, refl, ◌∙◌, arith}
 use borrow.Author.Tests.{eq-eqb, ne_eqb, lt-ltb}
 use lib.Dec.{eqb, ltb}
-use lib.ListN.{length, drop, get_or, drop_of_length-le}
-use lib.Seq.{drop-cons}
 use Rattle.keeping.specs.Keeping.{behind_last}
 
--- i bytes are looked at, and `end` of them go up to the last b among them
-abbrev pub so_far : (b : ℕ) → List ℕ → (end i : ℕ) → ℕ
-so_far b s end i = let n = behind_last b (drop i s) in cond (ltb 0 n) (i + n) end
+-- one byte more in front, by what was found behind it
+with_one : (b x : ℕ) (xs : List ℕ) (n : ℕ) (later found : Bool) → behind_last b xs ≡ n → ltb 0 n ≡ later → eqb x b ≡ found
+    → behind_last b (x ∷ xs) ≡ cond later (suc n) (cond found 1 0)
+with_one b x xs n later found e el ef = rw (e, el, ef) refl
 
-none_left : (b : ℕ) (s : List ℕ) (i : ℕ) → length s ≤ i → behind_last b (drop i s) ≡ 0
-none_left b s i h = rw drop_of_length-le
+pub none_there : (b : ℕ) (s : List ℕ) → ((k : ℕ) → 0 ≤ k → k < length s → get_or s k 0 ≢ b) → behind_last b s ≡ 0
+none_there b [] h = refl
+none_there b (x ∷ xs) h =
+    with_one b x xs 0 false false (none_there b xs (λ k from below. h (suc k) (omega arith) (omega arith))) refl
+    (ne_eqb x b (h 0 (omega arith) (omega arith)))
 
-pub at_start : (b : ℕ) (s : List ℕ) → behind_last b s ≡ so_far b s 0 0
-at_start b s = go (behind_last b s)
-  where
-    go : (n : ℕ) → n ≡ cond (ltb 0 n) (0 + n) 0
-    go zero = refl
-    go (suc n) = sym (ap (λ t. cond t (0 + suc n) 0) (lt-ltb 0 (suc n) (omega arith)) ∙ omega arith)
-
-pub at_end : (b : ℕ) (s : List ℕ) (end i : ℕ) → length s ≤ i → so_far b s end i ≡ end
-at_end b s end i h = ap (λ n. cond (ltb 0 n) (i + n) end) (none_left b s i h)
-
-module _ (b : ℕ) (s : List ℕ) (end i : ℕ) (left : i < length s) where
-  abbrev rest : ℕ
-  rest = behind_last b (drop (i + 1) s)
-
-  split : behind_last b (drop i s) ≡ cond (ltb 0 rest) (suc rest) (cond (eqb (get_or s i 0) b) 1 0)
-  split = ap (behind_last b) (drop-cons s i 0 left) ∙ ap (λ k. behind_last b (get_or s i 0 ∷ drop k s)) (sym (add-one i))
-
-  abbrev tests : Bool → Bool → ℕ
-  tests later found = cond later (suc rest) (cond found 1 0)
-
-  looked : (later found : Bool) → ltb 0 rest ≡ later → eqb (get_or s i 0) b ≡ found → so_far b s end i ≡ cond (ltb 0 (tests later found)) (i + tests later found) end
-  looked later found e f = ap (λ n. cond (ltb 0 n) (i + n) end) (split ∙ ap (λ t. tests t (eqb (get_or s i 0) b)) e ∙ ap (tests later) f)
-
-  -- one byte more, by whether a later b stands behind it
-  turn : (later found : Bool) → ltb 0 rest ≡ later → eqb (get_or s i 0) b ≡ found → so_far b s end i ≡ cond later (i + 1 + rest) (cond found (i + 1) end)
-  turn true found e f = looked true found e f ∙ ap (λ t. cond t (i + suc rest) end) (lt-ltb 0 (suc rest) (omega arith)) ∙ omega arith
-  turn false true e f = looked false true e f
-  turn false false e f = looked false false e f
-
-  pub found_here : get_or s i 0 ≡ b → so_far b s end i ≡ so_far b s (i + 1) (i + 1)
-  found_here h = turn (ltb 0 rest) true refl (eq-eqb (get_or s i 0) b h)
-
-  pub not_here : (get_or s i 0 ≡ b → ⊥) → so_far b s end i ≡ so_far b s end (i + 1)
-  not_here h = turn (ltb 0 rest) false refl (ne_eqb (get_or s i 0) b h)
+pub last_at : (b : ℕ) (s : List ℕ) (i : ℕ) → i < length s → get_or s i 0 ≡ b → ((k : ℕ) → i + 1 ≤ k → k < length s → get_or s k 0 ≢ b) → behind_last b s ≡ i + 1
+last_at b [] i below here after = absurd (omega arith)
+last_at b (x ∷ xs) zero below here after =
+    with_one b x xs 0 false true (none_there b xs (λ k from under. after (suc k) (omega arith) (omega arith))) refl (eq-eqb x b here)
+last_at b (x ∷ xs) (suc i) below here after =
+    with_one b x xs (i + 1) true (eqb x b) (last_at b xs i (omega arith) here (λ k from under. after (suc k) (omega arith) (omega arith)))
+    (lt-ltb 0 (i + 1) (omega arith)) refl ∙ omega arith

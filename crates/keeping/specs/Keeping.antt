@@ -1,5 +1,5 @@
 -- LINE 2 and 3: what the keeper of a recording decides.
-use Rattle.std.specs.Prelude.{ℕ, suc, Bool, false, cond, List, [], ◌∷◌, eqb, ltb, ℤ, pos, negsuc}
+use Rattle.std.specs.Prelude.{ℕ, suc, Bool, false, Option, Some, None, cond, List, [], ◌∷◌, eqb, ltb}
 use Rattle.keeping.specs.declared.Source.{Source}
 use Rattle.keeping.specs.declared.Source.TheVariants.{Recording, Input, Line}
 use Rattle.keeping.specs.declared.Next.{Next}
@@ -22,15 +22,15 @@ none_read Line terminal left = cond terminal Wait Closed
 abbrev pub taken_for : Source → (failed terminal left : Bool) → (count : ℕ) → Next
 taken_for source failed terminal left count = cond failed Broken (cond (eqb count 0) (none_read source terminal left) (some_read source))
 
--- LINE 2.3: a file's length, by the place of its end
-abbrev pub size_of : ℤ → ℕ
-size_of (pos end) = end
-size_of (negsuc n) = 0
+-- LINE 2.3: a file's length, by the place of its end, where that can be told
+abbrev pub size_of : Option ℕ → ℕ
+size_of None = 0
+size_of (Some end) = end
 
 -- LINE 2.3: the recording holds what was heard, and nothing else stands behind it
-abbrev pub is_whole : ℤ → (heard : ℕ) → Bool
-is_whole (pos end) heard = eqb end heard
-is_whole (negsuc n) heard = false
+abbrev pub is_whole : Option ℕ → (heard : ℕ) → Bool
+is_whole None heard = false
+is_whole (Some end) heard = eqb end heard
 
 -- LINE 2.4: how many bytes there are up to the last b, that too; 0 where there is none
 abbrev pub behind_last : ℕ → List ℕ → ℕ

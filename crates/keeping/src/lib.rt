@@ -9,9 +9,6 @@ ghost use Rattle.keeping.specs.Keeping.{taken_for, some_read, none_read, size_of
 // LINE 2.5: how often a long replay says how far it is, in bytes.
 pub const REPORT: u64 = 16777216;
 
-// As much as can be counted.
-const MOST: u64 = 0xFFFFFFFFFFFFFFFF;
-
 // LINE 2.4: between a folder and what is in it.
 const SLASH: u8 = b'/';
 
@@ -84,13 +81,11 @@ fn stage_anew() -> Stage
 pub fn source_of(replays: bool, online: bool) -> Source
     ensures { result ≡ source_of replays online }
 {
-    if replays {
-        return Source::Recording;
+    match (replays, online) {
+        (true, _) => Source::Recording,
+        (false, true) => Source::Line,
+        (false, false) => Source::Input,
     }
-    if online {
-        return Source::Line;
-    }
-    Source::Input
 }
 
 // How far it is behind a read; `kept` says whether bytes of the line stand in the recording.
@@ -100,17 +95,11 @@ pub fn stage_after(next: Next, heard: u64, count: usize, kept: bool) -> Stage
     match next {
         Next::Silent => stage_at(true, grown(heard, count), count, false),
         Next::Anew => stage_anew(),
-        Next::Begin => stage_at(false, heard, 0, false),
-        Next::Answer => {
-            if kept {
-                return stage_at(false, grown(heard, count), count, false);
-            }
+        Next::Answer if kept => stage_at(false, grown(heard, count), count, false),
+        Next::Begin | Next::Wait => stage_at(false, heard, 0, false),
+        Next::Answer | Next::End | Next::Closed | Next::Broken => {
             stage_at(false, heard, 0, true)
         }
-        Next::Wait => stage_at(false, heard, 0, false),
-        Next::End => stage_at(false, heard, 0, true),
-        Next::Closed => stage_at(false, heard, 0, true),
-        Next::Broken => stage_at(false, heard, 0, true),
     }
 }
 
@@ -140,8 +129,7 @@ fn some_read(source: Source) -> Next
 {
     match source {
         Source::Recording => Next::Silent,
-        Source::Input => Next::Answer,
-        Source::Line => Next::Answer,
+        Source::Input | Source::Line => Next::Answer,
     }
 }
 
@@ -150,19 +138,11 @@ fn none_read(source: Source, terminal: bool, left: bool) -> Next
     ensures { result ≡ none_read source terminal left }
 {
     match source {
-        Source::Recording => {
-            if left {
-                return Next::Anew;
-            }
-            Next::Begin
-        }
+        Source::Recording if left => Next::Anew,
+        Source::Recording => Next::Begin,
         Source::Input => Next::End,
-        Source::Line => {
-            if terminal {
-                return Next::Wait;
-            }
-            Next::Closed
-        }
+        Source::Line if terminal => Next::Wait,
+        Source::Line => Next::Closed,
     }
 }
 
@@ -170,11 +150,7 @@ fn none_read(source: Source, terminal: bool, left: bool) -> Next
 pub fn grown(heard: u64, count: usize) -> u64
     ensures { result ≡ min (heard + count) 18446744073709551615 }
 {
-    let more = count as u64;
-    if MOST - heard < more {
-        return MOST;
-    }
-    heard + more
+    heard.saturating_add(count as u64)
 }
 
 // Whether a long replay has to say how far it is.
@@ -185,36 +161,25 @@ pub fn reports(before: u64, after: u64) -> bool
 }
 
 // How long a file is, by the place of its end; 0 where that can't be told.
-pub fn size_of(end: i64) -> u64
+pub fn size_of(end: Option<u64>) -> u64
     ensures { result ≡ size_of end }
 {
-    if end < 0 {
-        return 0;
-    }
-    end as u64
+    end.unwrap_or(0)
 }
 
 // Whether a recording that ends there holds as many bytes as were heard.
-pub fn is_whole(end: i64, heard: u64) -> bool
+pub fn is_whole(end: Option<u64>, heard: u64) -> bool
     ensures { result ≡ is_whole end heard }
 {
-    if end < 0 {
-        return false;
-    }
-    size_of(end) == heard
+    end == Some(heard)
 }
 
 // How many bytes of a path are its folder's: those up to the last slash, that too.
 pub fn folder_end(path: &[u8]) -> usize
     ensures { result ≡ behind_last 47 path.now }
 {
-    let mut end = 0;
-    let mut i = 0;
-    while i < path.len() {
-        if path[i] == SLASH {
-            end = i + 1;
-        }
-        i += 1;
+    match path.iter().rposition(|&b| b == SLASH) {
+        Some(last) => last + 1,
+        None => 0,
     }
-    end
 }

@@ -2,13 +2,12 @@
 #![tactic(auto)]
 
 ghost use Rattle.std.specs.Prelude.{◌≡◌, ◌≤◌, drop};
-ghost use Rattle.machine.specs.Hearing.{part_of, after_part};
+ghost use Rattle.machine.specs.Hearing.{after_part};
 ghost use Rattle.kept.specs.ByValue.{machine_of, next_of, fresh_kept, kept_anew};
 
 use device::hear;
-use display::Display;
 use line::Call;
-use machine::{Device, Hearing};
+use machine::Device;
 use reader::FRAME_ROOM;
 use sheet::{Line, MOST_LINES};
 use wire::ANSWER_ROOM;
@@ -28,15 +27,8 @@ pub struct Next {
     pub call: Call,
     pub number: u64,
     pub count: usize,
-    pub shows: Display,
+    pub shows: Option<usize>,
     pub taken: usize,
-}
-
-// What a call brought, and the sheet behind it.
-#[derive(Clone, Copy)]
-struct KeptHearing {
-    hearing: Hearing,
-    sheet: [Line; MOST_LINES],
 }
 
 // A fresh device, with a sheet on which nothing stands.
@@ -56,8 +48,7 @@ pub fn switch_on(kept: Kept) -> Kept
     ensures { result ≡ kept_anew kept }
 {
     let device = machine::switch_on(kept.device);
-    let sheet = kept.sheet;
-    Kept { device, sheet }
+    Kept { device, ..kept }
 }
 
 // What `device::hear` does, the sheet by value.
@@ -73,42 +64,27 @@ pub fn hear_next(
     ensures display_after { next_of result frame.new last.new buf.new display.new ≡ after_part (machine_of kept frame.old last.old) (record { buffer = buf.old; lines = 512; display = display.old }) (drop from bytes.now) }
     ensures count_bound { result.count ≤ 217 }
 {
-    let device = kept.device;
-    let sheet = kept.sheet;
-    let heard = hear_kept(device, frame, last, buf, display, sheet, bytes, from);
-    let hearing = heard.hearing;
+    let mut lines = kept.sheet;
+    let hearing = hear(
+        kept.device,
+        frame,
+        last,
+        buf,
+        display,
+        &mut lines,
+        bytes,
+        from,
+    );
     let given = hearing.given;
-    let after = given.device;
-    let lines = heard.sheet;
-    let call = hearing.call;
-    let shows = given.shows;
     Next {
         kept: Kept {
-            device: after,
+            device: given.device,
             sheet: lines,
         },
-        call,
+        call: hearing.call,
         number: given.number,
         count: given.count,
-        shows,
+        shows: given.shows,
         taken: hearing.taken,
     }
-}
-
-// The same, not yet put together: the sheet is lent from a local.
-fn hear_kept(
-    device: Device,
-    frame: &mut [u8; FRAME_ROOM],
-    last: &mut [u8; ANSWER_ROOM],
-    buf: &mut [u8],
-    display: &mut [u8],
-    sheet: [Line; MOST_LINES],
-    bytes: &[u8],
-    from: usize,
-) -> KeptHearing
-    ensures { (part_of result.hearing frame.new last.new buf.new display.new result.sheet 512 ≡ after_part (record { device = device; frame = frame.old; last = last.old; sheet = sheet }) (record { buffer = buf.old; lines = 512; display = display.old }) (drop from bytes.now)) × (result.hearing.given.count ≤ 217) }
-{
-    let mut s = sheet;
-    let hearing = hear(device, frame, last, buf, display, &mut s, bytes, from);
-    KeptHearing { hearing, sheet: s }
 }

@@ -12,10 +12,11 @@ use Rattle.text.proofs.Cutting.{place_within, to_end}
 use Rattle.kinds.specs.Plain.{sums_of, closing_of}
 use Rattle.kinds.specs.Fields.{parsed_number, ends_or}
 use Rattle.kinds.specs.declared.Command.{Command}
-use Rattle.kinds.specs.declared.Parsed.TheVariants.{Read, Syntax}
+use Rattle.std.specs.Prelude.{Ok, Err}
+use Rattle.kinds.specs.declared.Unread.TheVariants.{Syntax}
 
 -- what ends a command with a number is told with that number
-pub ends_say : (c : Command) (number : ℕ) → number ≤ 2 → parsed_number (ends_or number (Read c)) ≡ number
+pub ends_say : (c : Command) (number : ℕ) → number ≤ 2 → parsed_number (ends_or number (Ok c)) ≡ number
 ends_say c zero h = refl
 ends_say c (suc zero) h = refl
 ends_say c (suc (suc zero)) h = refl
@@ -27,12 +28,12 @@ one [] e = absurd (omega arith)
 one (x ∷ []) e = refl
 one (x ∷ y ∷ s) e = absurd (omega arith)
 
-pub sums_long : (s : List ℕ) → (length s ≡ 0 → ⊥) → (length s ≡ 1 → ⊥) → Syntax ≡ sums_of s
+pub sums_long : (s : List ℕ) → (length s ≡ 0 → ⊥) → (length s ≡ 1 → ⊥) → Err Syntax ≡ sums_of s
 sums_long [] e f = absurd (e refl)
 sums_long (x ∷ []) e f = absurd (f refl)
 sums_long (x ∷ y ∷ s) e f = refl
 
-pub closing_long : (s : List ℕ) → (length s ≡ 1 → ⊥) → Syntax ≡ closing_of s
+pub closing_long : (s : List ℕ) → (length s ≡ 1 → ⊥) → Err Syntax ≡ closing_of s
 closing_long [] f = refl
 closing_long (x ∷ []) f = absurd (f refl)
 closing_long (x ∷ y ∷ s) f = refl

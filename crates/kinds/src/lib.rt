@@ -5,7 +5,7 @@ pub mod operators;
 pub mod plain;
 
 // Compared digit by digit, so with the number of its digits: 00000 is not 0000.
-#[derive(Clone, Copy)]
+#[derive(Clone, Copy, PartialEq, Eq)]
 pub struct Password {
     pub digits: usize,
     pub value: u64,
@@ -105,10 +105,9 @@ pub enum Command {
     },
 }
 
-// A command, or reply number 1 or 2.
-#[derive(Clone, Copy)]
-pub enum Parsed {
-    Read(Command),
+// What stands where no command was read: reply number 1, or 2.
+#[derive(Clone, Copy, PartialEq, Eq)]
+pub enum Unread {
     Syntax,
     Unknown,
 }

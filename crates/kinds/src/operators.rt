@@ -2,8 +2,7 @@
 ghost use Rattle.std.specs.Prelude.{◌≡◌};
 ghost use Rattle.kinds.specs.Operators.{is_op, secret_of, open_with, change_with, name_with, with_third, operators_of, name_in};
 
-use crate::{Command, Parsed, Password};
-use figures::Number;
+use crate::{Command, Password, Unread};
 
 // What stands behind Op and Pwd: of 48 Till, of 101 the new password, of 102 the name.
 #[derive(Clone, Copy)]
@@ -14,37 +13,35 @@ pub enum Third {
 }
 
 // `Op,Pwd,` and the third field, which may hold commas.
-pub fn read_fields(third: Third, s: &[u8]) -> Parsed
+pub fn read_fields(third: Third, s: &[u8]) -> Result<Command, Unread>
     ensures { result ≡ operators_of third s.now }
 {
     let first = text::find(s, b',');
     if first == s.len() {
-        return Parsed::Syntax;
+        return Err(Unread::Syntax);
     }
     let next = first + 1;
     let rest = &s[next..];
     let second = text::find(rest, b',');
     if second == rest.len() {
-        return Parsed::Syntax;
+        return Err(Unread::Syntax);
     }
     let last = second + 1;
     read_third(third, &s[..first], &rest[..second], &rest[last..])
 }
 
 // Op and Pwd are read alike in all three.
-fn read_third(third: Third, op: &[u8], password: &[u8], last: &[u8]) -> Parsed
+fn read_third(third: Third, op: &[u8], password: &[u8], last: &[u8]) -> Result<Command, Unread>
     ensures { result ≡ with_third third op.now password.now last.now }
 {
-    let a = figures::digits(op, 1);
-    let Number::Is(o) = a else {
-        return Parsed::Syntax;
+    let Some(o) = figures::digits(op, 1) else {
+        return Err(Unread::Syntax);
     };
-    let b = read_secret(password);
-    let Number::Is(p) = b else {
-        return Parsed::Syntax;
+    let Some(p) = read_secret(password) else {
+        return Err(Unread::Syntax);
     };
     if !is_op(o) {
-        return Parsed::Syntax;
+        return Err(Unread::Syntax);
     }
     let given = Password {
         digits: password.len(),
@@ -65,24 +62,23 @@ pub fn is_op(op: u64) -> bool
 }
 
 // A password has four to six digits.
-fn read_secret(s: &[u8]) -> Number
+fn read_secret(s: &[u8]) -> Option<u64>
     ensures { result ≡ secret_of s.now }
 {
     if s.len() < 4 {
-        return Number::NotOne;
+        return None;
     }
     figures::digits(s, 6)
 }
 
 // Till has 1 to 5 digits.
-fn open_with(op: u64, password: Password, till: &[u8]) -> Parsed
+fn open_with(op: u64, password: Password, till: &[u8]) -> Result<Command, Unread>
     ensures { result ≡ open_with op password till.now }
 {
-    let read = figures::digits(till, 5);
-    let Number::Is(t) = read else {
-        return Parsed::Syntax;
+    let Some(t) = figures::digits(till, 5) else {
+        return Err(Unread::Syntax);
     };
-    Parsed::Read(Command::Open {
+    Ok(Command::Open {
         op,
         password,
         till: t,
@@ -90,14 +86,13 @@ fn open_with(op: u64, password: Password, till: &[u8]) -> Parsed
 }
 
 // The new password is one too.
-fn change_with(op: u64, old: Password, new: &[u8]) -> Parsed
+fn change_with(op: u64, old: Password, new: &[u8]) -> Result<Command, Unread>
     ensures { result ≡ change_with op old new.now }
 {
-    let read = read_secret(new);
-    let Number::Is(p) = read else {
-        return Parsed::Syntax;
+    let Some(p) = read_secret(new) else {
+        return Err(Unread::Syntax);
     };
-    Parsed::Read(Command::ChangePassword {
+    Ok(Command::ChangePassword {
         op,
         old,
         new: Password {
@@ -108,13 +103,13 @@ fn change_with(op: u64, old: Password, new: &[u8]) -> Parsed
 }
 
 // The name stays in the data.
-fn name_with(op: u64, password: Password, name: &[u8]) -> Parsed
+fn name_with(op: u64, password: Password, name: &[u8]) -> Result<Command, Unread>
     ensures { result ≡ name_with op password name.now }
 {
     if labels::is_name(name) {
-        return Parsed::Read(Command::ChangeName { op, password });
+        return Ok(Command::ChangeName { op, password });
     }
-    Parsed::Syntax
+    Err(Unread::Syntax)
 }
 
 // The name of a 102: what stands behind the second comma.

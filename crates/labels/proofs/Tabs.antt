@@ -1,4 +1,6 @@
 -- Laws of the texts before a Tab.
+use Rattle.std.proofs.lemmas.Bool.{and_parts}
+use Rattle.std.specs.Prelude.{Option, Some, None}
 use mathlib.Core.Path.{◌≡◌, refl, sym, ap, ◌∙◌}
 use mathlib.Core.Bool.{Bool, true, false, cond, ◌&&◌}
 use mathlib.Core.List.{List, []}
@@ -8,13 +10,9 @@ use lib.Dec.{leb, ltb}
 use lib.ListN.{length, take, drop, drop_of_length-le}
 use lib.Seq.{length-take-le, take-take}
 use borrow.Author.Tests.{le-leb, lt-leb, lt-ltb, le-ltb, ltb-true}
-use Rattle.text.specs.Parts.{every}
-use Rattle.basics.proofs.Tests.{both}
-use Rattle.text.specs.Parts.{first_at, has, up_to}
+use Rattle.text.specs.Parts.{every, first_at, has, up_to}
 use Rattle.labels.specs.Texts.{text_within, tab, line_feed, is_text, are_texts, begins_with_texts, rest_of, only_line, first_line, second_line}
 use Rattle.text.proofs.Cutting.{place_within, drop-take}
-use Rattle.labels.specs.declared.Found.{Found}
-use Rattle.labels.specs.declared.Found.TheVariants.{At, NotThere}
 
 pub text_long : (most : ℕ) (s : List ℕ) → most < length s → false ≡ text_within most s
 text_long most s h = rw (lt-leb (length s) most h)
@@ -50,49 +48,49 @@ module _ (s : List ℕ) (at : ℕ) (found : at ≡ first_at line_feed s) where
       same ∙ ap (texts_at s) found
 
 -- the whole data, cut at any place
-abbrev rest_at : List ℕ → ℕ → Found
-rest_at s at = cond (ltb at (length s) && are_texts (take at s)) (At (at + 1)) NotThere
+abbrev rest_at : List ℕ → ℕ → Option ℕ
+rest_at s at = cond (ltb at (length s) && are_texts (take at s)) (Some (at + 1)) None
 
 module _ (s : List ℕ) (at : ℕ) (found : at ≡ first_at tab s) where
-  pub no_tab : at ≡ length s → NotThere ≡ rest_of s
+  pub no_tab : at ≡ length s → None ≡ rest_of s
   no_tab all =
-      let same : NotThere ≡ rest_at s at = rw (le-ltb at (length s) (omega arith)) in
+      let same : None ≡ rest_at s at = rw (le-ltb at (length s) (omega arith)) in
       same ∙ ap (rest_at s) found
 
   module _ (more : at < length s) where
-    pub no_texts : are_texts (take at s) ≡ false → NotThere ≡ rest_of s
+    pub no_texts : are_texts (take at s) ≡ false → None ≡ rest_of s
     no_texts e =
-        let same : NotThere ≡ rest_at s at = rw (lt-ltb at (length s) more, e) in
+        let same : None ≡ rest_at s at = rw (lt-ltb at (length s) more, e) in
         same ∙ ap (rest_at s) found
 
-    pub rest_at_lem : are_texts (take at s) ≡ true → At (at + 1) ≡ rest_of s
+    pub rest_at_lem : are_texts (take at s) ≡ true → Some (at + 1) ≡ rest_of s
     rest_at_lem e =
-        let same : At (at + 1) ≡ rest_at s at = rw (lt-ltb at (length s) more, e) in
+        let same : Some (at + 1) ≡ rest_at s at = rw (lt-ltb at (length s) more, e) in
         same ∙ ap (rest_at s) found
 
 -- what the place of the rest tells
 module _ (s : List ℕ) where
-  pub not_begun_lem : rest_of s ≡ NotThere → begins_with_texts s ≡ false
+  pub not_begun_lem : rest_of s ≡ None → begins_with_texts s ≡ false
   not_begun_lem = go (begins_with_texts s) refl
     where
-      go : (b : Bool) → begins_with_texts s ≡ b → cond b (At (first_at tab s + 1)) NotThere ≡ NotThere → begins_with_texts s ≡ false
+      go : (b : Bool) → begins_with_texts s ≡ b → cond b (Some (first_at tab s + 1)) None ≡ None → begins_with_texts s ≡ false
       go true e h = let z : ◌≡◌ {A = ℕ} 0 1 = cc in absurd (omega arith)
       go false e h = e
 
-  pub first_none : rest_of s ≡ NotThere → [] ≡ first_line s
+  pub first_none : rest_of s ≡ None → [] ≡ first_line s
   first_none h = rw (not_begun_lem h)
 
-  pub second_none : rest_of s ≡ NotThere → [] ≡ second_line s
+  pub second_none : rest_of s ≡ None → [] ≡ second_line s
   second_none h = rw (not_begun_lem h)
 
-  pub begun : (next : ℕ) → rest_of s ≡ At next → (begins_with_texts s ≡ true) × (next ≡ first_at tab s + 1)
+  pub begun : (next : ℕ) → rest_of s ≡ Some next → (begins_with_texts s ≡ true) × (next ≡ first_at tab s + 1)
   begun next = go (begins_with_texts s) refl
     where
-      go : (b : Bool) → begins_with_texts s ≡ b → cond b (At (first_at tab s + 1)) NotThere ≡ At next → (begins_with_texts s ≡ true) × (next ≡ first_at tab s + 1)
+      go : (b : Bool) → begins_with_texts s ≡ b → cond b (Some (first_at tab s + 1)) None ≡ Some next → (begins_with_texts s ≡ true) × (next ≡ first_at tab s + 1)
       go true e h = (e, cc)
       go false e h = let z : ◌≡◌ {A = ℕ} 0 1 = cc in absurd (omega arith)
 
-module _ (s : List ℕ) (next : ℕ) (rest : rest_of s ≡ At next) where
+module _ (s : List ℕ) (next : ℕ) (rest : rest_of s ≡ Some next) where
   tab-at : next ≡ first_at tab s + 1
   tab-at = (begun s next rest).1
 
@@ -101,7 +99,7 @@ module _ (s : List ℕ) (next : ℕ) (rest : rest_of s ≡ At next) where
 
   pub rest_within : next ≤ length s
   rest_within =
-      let inside : first_at tab s < length s = ltb-true (first_at tab s) (length s) (both (has tab s) (are_texts (up_to tab s)) (begun s next rest).0).0 in
+      let inside : first_at tab s < length s = ltb-true (first_at tab s) (length s) (and_parts (has tab s) (are_texts (up_to tab s)) (begun s next rest).0).0 in
       omega (arith, tab-at)
 
   pub tab_length : next - 1 ≡ length (take (next - 1) s)

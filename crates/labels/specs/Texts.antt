@@ -1,9 +1,6 @@
 -- PROTOCOL 4.7: the texts before the Tab of 49 and 53, and the text of 42.
-use Rattle.std.specs.Prelude.{ℕ, ◌+◌, Bool, cond, ◌&&◌, List, [], leb, length}
-use Rattle.text.specs.Parts.{every}
-use Rattle.text.specs.Parts.{first_at, has, up_to, past}
-use Rattle.labels.specs.declared.Found.{Found}
-use Rattle.labels.specs.declared.Found.TheVariants.{At, NotThere}
+use Rattle.std.specs.Prelude.{ℕ, ◌+◌, Bool, cond, ◌&&◌, List, [], leb, length, Option, Some, None}
+use Rattle.text.specs.Parts.{every, first_at, has, up_to, past}
 
 -- PROTOCOL 4.7: at most so many bytes, none below 20h
 abbrev pub text_within : (most : ℕ) → List ℕ → Bool
@@ -33,17 +30,17 @@ abbrev pub begins_with_texts : List ℕ → Bool
 begins_with_texts s = has tab s && are_texts (up_to tab s)
 
 -- PROTOCOL 4.7, 5.1: the number, and the value: where the rest begins; 1 for data of another form
-abbrev pub found_number : Found → ℕ
-found_number (At start) = 0
-found_number NotThere = 1
+abbrev pub found_number : Option ℕ → ℕ
+found_number (Some start) = 0
+found_number None = 1
 
-abbrev pub found_start : Found → ℕ
-found_start (At start) = start
-found_start NotThere = 0
+abbrev pub found_start : Option ℕ → ℕ
+found_start (Some start) = start
+found_start None = 0
 
 -- PROTOCOL 4.7: the rest begins behind the first Tab
-abbrev pub rest_of : List ℕ → Found
-rest_of s = cond (begins_with_texts s) (At (first_at tab s + 1)) NotThere
+abbrev pub rest_of : List ℕ → Option ℕ
+rest_of s = cond (begins_with_texts s) (Some (first_at tab s + 1)) None
 
 -- PROTOCOL 4.7: texts as they are handed on, parts of the data: 42's, L1 and L2, each of no bytes where it is left out or the data is not of
 -- the form

@@ -18,13 +18,6 @@ const LF: u8 = 0x0A;
 // PROTOCOL 4.7: behind the texts.
 const TAB: u8 = 0x09;
 
-// Where the rest behind the texts and their Tab begins, or syntax: reply number 1.
-#[derive(Clone, Copy)]
-pub enum Found {
-    At(usize),
-    NotThere,
-}
-
 // Up to 42 bytes, each 20h up.
 pub fn is_text(s: &[u8]) -> bool
     ensures { result ≡ is_text s.now }
@@ -42,17 +35,7 @@ pub fn is_name(s: &[u8]) -> bool
 fn is_within(s: &[u8], most: usize) -> bool
     ensures { result ≡ text_within most s.now }
 {
-    if most < s.len() {
-        return false;
-    }
-    let mut i = 0;
-    while i < s.len() {
-        if s[i] < 0x20 {
-            return false;
-        }
-        i += 1;
-    }
-    true
+    s.len() <= most && s.iter().all(|&b| 0x20 <= b)
 }
 
 // L1, or L1 LF L2.
@@ -71,17 +54,17 @@ fn are_texts(s: &[u8]) -> bool
 }
 
 // Where the rest begins, if well-formed texts and a Tab stand before it.
-pub fn behind_tab(s: &[u8]) -> Found
+pub fn behind_tab(s: &[u8]) -> Option<usize>
     ensures { result ≡ rest_of s.now }
 {
     let at = find(s, TAB);
     if at == s.len() {
-        return Found::NotThere;
+        return None;
     }
     if !are_texts(&s[..at]) {
-        return Found::NotThere;
+        return None;
     }
-    Found::At(at + 1)
+    Some(at + 1)
 }
 
 // 42's: all of it.
@@ -98,8 +81,7 @@ pub fn only_line(s: &[u8]) -> &[u8]
 pub fn first_line(s: &[u8]) -> &[u8]
     ensures { result.now ≡ first_line s.now }
 {
-    let rest = behind_tab(s);
-    let Found::At(next) = rest else {
+    let Some(next) = behind_tab(s) else {
         return &s[..0];
     };
     let tab = next - 1;
@@ -111,8 +93,7 @@ pub fn first_line(s: &[u8]) -> &[u8]
 pub fn second_line(s: &[u8]) -> &[u8]
     ensures { result.now ≡ second_line s.now }
 {
-    let rest = behind_tab(s);
-    let Found::At(next) = rest else {
+    let Some(next) = behind_tab(s) else {
         return &s[..0];
     };
     let tab = next - 1;

@@ -5,7 +5,7 @@ use display::MOST_SHOWN;
 use kept::{Kept, Next};
 use reader::FRAME_ROOM;
 use system::Outlets;
-use wire::{ANSWER_ROOM, Built, COMMAND_ROOM};
+use wire::{ANSWER_ROOM, COMMAND_ROOM, Unbuilt};
 
 fn main(rt: HostRuntime) {
     let to = Outlets {
@@ -32,16 +32,12 @@ fn fill(to: Outlets, sale: &[u8]) {
         48,
         b"1,0000,1",
     );
-    let mut taken = 0u64;
-    while taken < 1000 {
-        let kept = sent.kept;
-        sent = send(kept, &mut frame, &mut last, seq(taken), 49, sale);
-        let number = sent.number;
-        if number != 0 {
-            tell(to, taken, number);
+    for taken in 0..1000 {
+        sent = send(sent.kept, &mut frame, &mut last, seq(taken), 49, sale);
+        if sent.number != 0 {
+            tell(to, taken, sent.number);
             return;
         }
-        taken += 1;
     }
 }
 
@@ -54,10 +50,7 @@ fn tell(to: Outlets, taken: u64, number: u64) {
 
 // Neighbours have different ones.
 fn seq(n: u64) -> u8 {
-    if n % 2 == 0 {
-        return 0x21;
-    }
-    0x22
+    if n % 2 == 0 { 0x21 } else { 0x22 }
 }
 
 // A command, as the device hears it: its whole frame. The bytes given back are not looked at.
@@ -73,7 +66,7 @@ fn send(
     let mut display = [0u8; MOST_SHOWN];
     let mut command = [0u8; COMMAND_ROOM];
     let built = wire::build::build_command(&mut command, seq, code, content);
-    let n = basics::least_size(size_of(built), COMMAND_ROOM);
+    let n = built.unwrap_or(0).min(COMMAND_ROOM);
     kept::hear_next(kept, frame, last, &mut buf, &mut display, &command[0..n], 0)
 }
 
@@ -92,19 +85,11 @@ fn sends(to: Outlets, n: usize) {
     word(to, b"\n");
 }
 
-fn size_of(built: Built) -> usize {
+fn reply(built: Result<usize, Unbuilt>) -> u64 {
     match built {
-        Built::Frame(n) => n,
-        Built::Short => 0,
-        Built::Unsendable => 0,
-    }
-}
-
-fn reply(built: Built) -> u64 {
-    match built {
-        Built::Frame(_) => 0,
-        Built::Short => 7,
-        Built::Unsendable => 8,
+        Ok(_) => 0,
+        Err(Unbuilt::Short) => 7,
+        Err(Unbuilt::Unsendable) => 8,
     }
 }
 

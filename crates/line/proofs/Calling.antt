@@ -1,14 +1,10 @@
 -- Laws of what bytes ask for: the code's branches, and listening as a stretch of reading.
 use mathlib.Core.Path.{◌≡◌, refl, sym, ap, ◌∙◌, subst}
-use mathlib.Core.Bool.{Bool, true, false, cond, not, ◌&&◌, false≢true}
+use mathlib.Core.Bool.{Bool, true, false, cond}
 use mathlib.Core.List.{List, [], ◌∷◌}
-use Prim.Native.Nat.{ℕ, suc, ◌+◌, ◌≤◌, ◌<◌}
-use native.Mathlib.Numerals.{add-one}
+use Prim.Native.Nat.{ℕ, ◌+◌, ◌≤◌, ◌<◌}
 use native.Mathlib.Omega.{arith}
-use lib.Dec.{eqb}
-use lib.ListN.{length, get_or, drop, drop_of_length-le}
-use lib.Seq.{drop-cons}
-use borrow.Author.Tests.{eq-eqb, ne_eqb}
+use lib.ListN.{length}
 use Rattle.wire.specs.declared.Way.TheVariants.{ToDevice}
 use Rattle.reader.specs.Reading.{read}
 use Rattle.reader.specs.Fields.{place_of, heard_of, is_silent}
@@ -18,27 +14,11 @@ use Rattle.reader.specs.declared.Heard.TheVariants as heards
 use Rattle.stretches.specs.declared.Stretch.{Stretch}
 use Rattle.line.specs.Calls.{call_for, is_repeat, is_quiet, called_of}
 use Rattle.line.specs.Listening.{frame_after, listened_to, frame_behind}
-use Rattle.line.specs.declared.Call.TheVariants.{Quiet, Again, Order}
+use Rattle.line.specs.declared.Call.{Call}
+use Rattle.line.specs.declared.Call.TheVariants.{Again, Order}
 use Rattle.line.specs.declared.Port.{Port}
 use Rattle.line.specs.declared.Listened.{Listened}
 use Rattle.line.specs.declared.Previous.{Previous}
-use Rattle.line.specs.declared.Previous.TheVariants.{Nothing, Frame}
-
--- a whole frame
-module _ (p : Previous) (h : Heard) (s c n : ℕ) (e : h ≡ heards.Whole s c n) where
-  pub calls_again : is_repeat p s c ≡ true → Again ≡ call_for p h
-  calls_again r = sym (ap (call_for p) e ∙ ap (λ z. cond z Again (Order s c n)) r)
-
-  pub calls_order : is_repeat p s c ≡ false → Order s c n ≡ call_for p h
-  calls_order r = sym (ap (call_for p) e ∙ ap (λ z. cond z Again (Order s c n)) r)
-
--- the repeat test
-module _ (p : Previous) (seq code s c n : ℕ) (e : p ≡ Frame s c n) where
-  pub repeat_code : s ≡ seq → eqb c code ≡ is_repeat p seq code
-  repeat_code h = sym (ap (λ z. is_repeat z seq code) e ∙ ap (λ z. z && eqb c code) (eq-eqb s seq h))
-
-  pub repeat_not : (s ≡ seq → ⊥) → false ≡ is_repeat p seq code
-  repeat_not h = sym (ap (λ z. is_repeat z seq code) e ∙ ap (λ z. z && eqb c code) (ne_eqb s seq h))
 
 -- a byte that brings nothing asks for nothing
 quiet_silent : (p : Previous) (h : Heard) → is_quiet (call_for p h) ≡ is_silent h
@@ -92,10 +72,13 @@ as_stretch (b ∷ bs) l frame = go (is_silent h) (quiet_silent l.previous h) (as
 
 -- so is what the code gives back
 pub listens : (l : Port) (frame bytes : List ℕ) (s : Stretch) (frame' : List ℕ) → record { stretch = s; array = frame' } ≡ stretched ToDevice l.reader frame bytes
-    → (r : Listened) → r ≡ listened_of l s → (r ≡ listened_to l frame bytes) × (frame' ≡ frame_behind l frame bytes)
-listens l frame bytes s frame' e r er =
+    → (c : Call) → c ≡ call_for l.previous s.heard
+    → (record { line = record { reader = s.reader; previous = l.previous }; call = c; taken = s.taken } ≡ listened_to l frame bytes) × (frame' ≡ frame_behind l frame bytes)
+listens l frame bytes s frame' e c ec =
     let whole = as_stretch bytes l frame in
-    (er ∙ ap (λ (z : Stretched). listened_of l z.stretch) e ∙ sym whole.0, ap (λ (z : Stretched). z.array) e ∙ sym whole.1)
+    let told : record { line = record { reader = s.reader; previous = l.previous }; call = c; taken = s.taken } ≡ listened_of l s =
+    ap (λ z. record { line = record { reader = s.reader; previous = l.previous }; call = z; taken = s.taken }) ec in
+    (told ∙ ap (λ (z : Stretched). listened_of l z.stretch) e ∙ sym whole.0, ap (λ (z : Stretched). z.array) e ∙ sym whole.1)
 
 -- no more bytes are taken than there are
 pub listened_within : (bytes : List ℕ) (l : Port) (frame : List ℕ) → (listened_to l frame bytes).taken ≤ length bytes

@@ -48,9 +48,8 @@ pub struct Listened {
 pub fn fresh() -> Port
     ensures { result ≡ record { reader = reader_of outside; previous = Nothing } }
 {
-    let reader = reader::fresh();
     Port {
-        reader,
+        reader: reader::fresh(),
         previous: Previous::Nothing,
     }
 }
@@ -60,20 +59,15 @@ pub fn listen(line: Port, frame: &mut [u8; FRAME_ROOM], bytes: &[u8]) -> Listene
     ensures value { result ≡ listened_to line frame.old bytes.now }
     ensures frame_after { frame.new ≡ frame_behind line frame.old bytes.now }
 {
-    let previous = line.previous;
-    let reader = line.reader;
-    let stretch = stretches::take_stretch(reader, frame, bytes);
-    let next = stretch.reader;
-    let heard = stretch.heard;
-    asks(next, previous, heard, stretch.taken)
-}
-
-fn asks(reader: Reader, previous: Previous, heard: Heard, taken: usize) -> Listened
-    ensures { result ≡ record { line = record { reader = reader; previous = previous }; call = call_for previous heard; taken = taken } }
-{
-    let call = call_for(previous, heard);
-    let line = Port { reader, previous };
-    Listened { line, call, taken }
+    let stretch = stretches::take_stretch(line.reader, frame, bytes);
+    Listened {
+        line: Port {
+            reader: stretch.reader,
+            ..line
+        },
+        call: call_for(line.previous, stretch.heard),
+        taken: stretch.taken,
+    }
 }
 
 fn call_for(previous: Previous, heard: Heard) -> Call
@@ -91,20 +85,8 @@ fn call_for(previous: Previous, heard: Heard) -> Call
     }
 }
 
-fn is_repeat(p: Previous, seq: u8, code: u8) -> bool
-    ensures { result ≡ is_repeat p seq code }
+fn is_repeat(previous: Previous, seq: u8, code: u8) -> bool
+    ensures { result ≡ is_repeat previous seq code }
 {
-    match p {
-        Previous::Nothing => false,
-        Previous::Frame {
-            seq: s,
-            code: c,
-            count: _,
-        } => {
-            if s == seq {
-                return c == code;
-            }
-            false
-        }
-    }
+    matches!(previous, Previous::Frame { seq: s, code: c, .. } if s == seq && c == code)
 }

@@ -2,76 +2,55 @@
 ghost use Rattle.lines.specs.Lines.{LineRead, ActRead};
 
 use crate::{LINE_ROOM, gather};
-use script::Act;
+use script::{Act, Mistake};
 use sentences::front;
 use std::io::{Error, Read, Stderr, Stdin};
 
-// SCRIPTS 6: the number of a line that is too long.
-const TOO_LONG: u8 = 3;
-
-// A line that was read: how many bytes it has, and whether there is one. Behind the last line, and where the input can't be read, there is none.
-#[derive(Clone, Copy)]
-pub struct Typed {
-    pub count: usize,
-    pub there: bool,
-}
-
-// What the next line says, and the line that says it.
+// What the next line says, and how many bytes it has.
 #[derive(Clone, Copy)]
 pub struct Next {
-    pub act: Act,
+    pub act: Result<Act, Mistake>,
     pub count: usize,
-    pub there: bool,
 }
 
-// The next line goes to the front of `line`, the data of its command to that of `content`.
-pub fn next_act(input: Stdin, errors: Stderr, line: &mut [u8], content: &mut [u8]) -> Next
+// The next line goes to the front of `line`, the data of its command to that of `content`. Behind the last line, and where the input can't be
+// read, there is none.
+pub fn next_act(input: Stdin, errors: Stderr, line: &mut [u8], content: &mut [u8]) -> Option<Next>
     ensures { ActRead line.old line.new content.old content.new result }
 {
-    let typed = next_line(input, errors, line);
-    let mut act = Act::Wrong(TOO_LONG);
-    if typed.count <= LINE_ROOM {
-        act = script::read_line(front(line, typed.count), content);
+    let count = next_line(input, errors, line)?;
+    if LINE_ROOM < count {
+        return Some(Next {
+            act: Err(Mistake::TooLong),
+            count,
+        });
     }
-    Next {
-        act,
-        count: typed.count,
-        there: typed.there,
-    }
+    let act = script::read_line(front(line, count), content);
+    Some(Next { act, count })
 }
 
 // Of a line that is too long no more than one byte too many is read. What stands before the end of the input is a line too.
-fn next_line(mut input: Stdin, errors: Stderr, line: &mut [u8]) -> Typed
+fn next_line(mut input: Stdin, errors: Stderr, line: &mut [u8]) -> Option<usize>
     ensures { LineRead line.old line.new result }
 {
     let mut count: usize = 0;
-    let mut left = LINE_ROOM + 1;
-    while 0 < left {
+    for _ in 0..=LINE_ROOM {
         let mut byte = [0u8; 1];
         match input.read(&mut byte) {
-            Ok(0) => {
-                return Typed {
-                    count,
-                    there: 0 < count,
-                };
-            }
+            Ok(0) => return (0 < count).then_some(count),
             Ok(_) => {}
             Err(why) => {
                 unread(errors, why);
-                return Typed {
-                    count,
-                    there: false,
-                };
+                return None;
             }
         }
         let gathered = gather(line, count, &byte);
         count = gathered.count;
         if gathered.whole {
-            return Typed { count, there: true };
+            break;
         }
-        left -= 1;
     }
-    Typed { count, there: true }
+    Some(count)
 }
 
 fn unread(errors: Stderr, why: Error) {

@@ -3,10 +3,10 @@
 
 pub mod input;
 
-ghost use Rattle.std.specs.Prelude.{◌≡◌, ◌+◌, min};
+ghost use Rattle.std.specs.Prelude.{◌≡◌};
 ghost use Rattle.std.proofs.lemmas.List.Edits.{sets};
 ghost use Rattle.text.specs.Parts.{up_to};
-ghost use Rattle.lines.specs.Lines.{most, gathered};
+ghost use Rattle.lines.specs.Lines.{gathered};
 
 // SCRIPTS 1: the longest line.
 pub const LINE_ROOM: usize = 1200;
@@ -26,27 +26,10 @@ pub fn gather(line: &mut [u8], count: usize, part: &[u8]) -> Gathered
 {
     let end = text::find(part, 10);
     text::put_bytes(line, count, &part[..end]);
-    let more = sum(count, end);
-    if end < part.len() {
-        return Gathered {
-            count: more,
-            taken: end + 1,
-            whole: true,
-        };
-    }
+    let whole = end < part.len();
     Gathered {
-        count: more,
-        taken: end,
-        whole: false,
+        count: count.saturating_add(end),
+        taken: if whole { end + 1 } else { end },
+        whole,
     }
-}
-
-// A sum that stops at the largest number.
-pub fn sum(a: usize, b: usize) -> usize
-    ensures { result ≡ min (a + b) most }
-{
-    if 0xFFFFFFFFFFFFFFFF - a < b {
-        return 0xFFFFFFFFFFFFFFFF;
-    }
-    a + b
 }

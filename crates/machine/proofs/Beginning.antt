@@ -1,4 +1,5 @@
 -- Laws of the first half of a call, a branch of the code each.
+use Rattle.std.specs.Prelude.{Option}
 use mathlib.Core.Path.{◌≡◌, sym, ap, ◌∙◌}
 use mathlib.Core.Bool.{Bool, true, false, cond}
 use mathlib.Core.List.{List, ◌++◌, append-nil}
@@ -7,8 +8,7 @@ use native.Mathlib.Decide.{dec_lt}
 use native.Mathlib.Omega.{arith}
 use lib.ListN.{length, take, drop, length-drop, drop_of_length-le}
 use Rattle.display.specs.Display.{shown_by, display_of, displayed}
-use Rattle.display.specs.declared.Display.{Display}
-use Rattle.kinds.specs.declared.Parsed.{Parsed}
+use Rattle.kinds.specs.Fields.{Parsed}
 use Rattle.command.specs.Commands.{parsed_of}
 use Rattle.sheet.specs.declared.Search.{Search}
 use Rattle.books.specs.declared.Books.{Books}
@@ -39,7 +39,7 @@ module _ (b : Books) (g : Guard) (call : Call) (frame : List ℕ) (s c n k : ℕ
   texts : shown_by c content ≡ texts_by (Order s c n) frame
   texts = ap (shown_by c) cut ∙ sym (append-nil (shown_by c (take n (drop 3 frame))))
 
-  pub asked_is : (p : Parsed) (q : Search) (x : Display) (j : Judged) → p ≡ parsed_of c content → q ≡ search_in b p → x ≡ display_of (shown_by c content) → j ≡ judged_by g p content
+  pub asked_is : (p : Parsed) (q : Search) (x : Option ℕ) (j : Judged) → p ≡ parsed_of c content → q ≡ search_in b p → x ≡ display_of (shown_by c content) → j ≡ judged_by g p content
       → record { parsed = p; search = q; shows = x; guard = j.guard; passes = j.passes } ≡ asked_of b g call frame
   asked_is p q x j ep eq ex ej =
       ap (λ z. record { parsed = p; search = z; shows = x; guard = j.guard; passes = j.passes }) eq

@@ -1,4 +1,5 @@
 -- "All that is lent is long enough", part by part.
+use Rattle.std.proofs.lemmas.Bool.{and_parts, and_from}
 use mathlib.Core.Path.{◌≡◌, refl}
 use mathlib.Core.Bool.{true, ◌&&◌}
 use mathlib.Core.List.{List, [], ◌∷◌}
@@ -7,7 +8,6 @@ use lib.Dec.{leb}
 use lib.ListN.{length}
 use lib.Seq.{sets, length-sets}
 use borrow.Author.Tests.{leb-true, le-leb}
-use Rattle.basics.proofs.Tests.{both, and_true}
 use Rattle.display.specs.Display.{displayed}
 use Rattle.machine.specs.Device.{Lent, enough}
 
@@ -18,8 +18,8 @@ pub record Long (lent : Lent) : Type 0 where
 
 pub long : (lent : Lent) → enough lent ≡ true → Long lent
 long lent e =
-    let all = both (leb 217 (length lent.buffer) && leb 512 lent.lines) (leb 40 (length lent.display)) e in
-    let two = both (leb 217 (length lent.buffer)) (leb 512 lent.lines) all.0 in
+    let all = and_parts (leb 217 (length lent.buffer) && leb 512 lent.lines) (leb 40 (length lent.display)) e in
+    let two = and_parts (leb 217 (length lent.buffer)) (leb 512 lent.lines) all.0 in
     record {
       room = leb-true 217 (length lent.buffer) two.0;
       lines = leb-true 512 lent.lines two.1;
@@ -28,8 +28,8 @@ long lent e =
 
 pub long_so : (lent : Lent) → Long lent → enough lent ≡ true
 long_so lent h =
-    and_true (leb 217 (length lent.buffer) && leb 512 lent.lines) (leb 40 (length lent.display))
-    (and_true (leb 217 (length lent.buffer)) (leb 512 lent.lines) (le-leb 217 (length lent.buffer) h.room) (le-leb 512 lent.lines h.lines))
+    and_from (leb 217 (length lent.buffer) && leb 512 lent.lines) (leb 40 (length lent.display))
+    (and_from (leb 217 (length lent.buffer)) (leb 512 lent.lines) (le-leb 217 (length lent.buffer) h.room) (le-leb 512 lent.lines h.lines))
     (le-leb 40 (length lent.display) h.display)
 
 -- the display's buffer keeps its length

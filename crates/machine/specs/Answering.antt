@@ -1,5 +1,5 @@
 -- What a call on the line makes of the device: the second half of a byte, which alone moves what commands work on.
-use Rattle.std.specs.Prelude.{ℕ, List, [], ◌∷◌, ◌++◌, length, take, drop}
+use Rattle.std.specs.Prelude.{ℕ, List, [], ◌∷◌, ◌++◌, length, take, drop, None}
 use Rattle.std.proofs.lemmas.List.Edits.{sets}
 use Rattle.wire.specs.Frame.{command_of}
 use Rattle.line.specs.Turns.{Carried, last_answer}
@@ -9,7 +9,6 @@ use Rattle.line.specs.declared.Call.TheVariants.{Quiet, Nak, Again, Order}
 use Rattle.line.specs.declared.Previous.TheVariants.{Frame}
 use Rattle.store.specs.Store.{Store}
 use Rattle.display.specs.Display.{display_of, displayed}
-use Rattle.display.specs.declared.Display.TheVariants.{Stays}
 use Rattle.carrying.specs.Carrying.{carry, texts_of}
 use Rattle.machine.specs.Device.{Lent, Machine, store_of, After}
 
@@ -21,7 +20,7 @@ gives call bytes m lent =
       lent = record { buffer = sets lent.buffer 0 bytes; lines = lent.lines; display = lent.display };
       number = call_number call 0;
       count = length bytes;
-      shows = Stays;
+      shows = None;
     }
 
 -- PROTOCOL 1.11: a command carried out is the frame before from now on, with its answer; 5.17: and what it shows is told

@@ -1,10 +1,8 @@
 -- The first half of a call of the device: what is heard, and what it looks for in the sheet, which it does not see.
-use Rattle.std.specs.Prelude.{ℕ, Bool, true, false, cond, ◌&&◌, List, leb, length, take, drop}
+use Rattle.std.specs.Prelude.{ℕ, Bool, true, false, cond, ◌&&◌, List, leb, length, take, drop, Option, None, Err}
 use Rattle.display.specs.Display.{display_of, displayed}
-use Rattle.display.specs.declared.Display.{Display}
-use Rattle.display.specs.declared.Display.TheVariants.{Stays}
-use Rattle.kinds.specs.declared.Parsed.{Parsed}
-use Rattle.kinds.specs.declared.Parsed.TheVariants.{Unknown}
+use Rattle.kinds.specs.Fields.{Parsed}
+use Rattle.kinds.specs.declared.Unread.TheVariants.{Unknown}
 use Rattle.command.specs.Commands.{parsed_of}
 use Rattle.sheet.specs.Searches.{no_search}
 use Rattle.books.specs.declared.Books.{Books}
@@ -27,11 +25,11 @@ long_enough room lines shown = leb 217 room && leb 512 lines && leb 40 shown
 
 -- PROTOCOL 1.11, 5.4, 5.20: a command's data, which stands in the frame from its fourth byte on, as it is read, what it looks for, and what the guard says to
 -- it; nothing else looks for anything
-abbrev pub asking : Books → Parsed → Display → Judged → Asked
+abbrev pub asking : Books → Parsed → Option ℕ → Judged → Asked
 asking b p shows j = record { parsed = p; search = search_in b p; shows = shows; guard = j.guard; passes = j.passes }
 
 abbrev pub asks_nothing : Guard → Asked
-asks_nothing g = record { parsed = Unknown; search = no_search; shows = Stays; guard = g; passes = true }
+asks_nothing g = record { parsed = Err Unknown; search = no_search; shows = None; guard = g; passes = true }
 
 -- PROTOCOL 5.17: what a call's command shows
 abbrev pub texts_by : Call → (frame : List ℕ) → List (List ℕ)
@@ -62,7 +60,7 @@ begun_by b x q =
 
 abbrev pub not_begun : Device → Begun
 not_begun d =
-    record { device = d; call = Quiet; taken = 0; parsed = Unknown; lines = 0; wanted = no_search.wanted; shows = Stays; passes = true; enough = false }
+    record { device = d; call = Quiet; taken = 0; parsed = Err Unknown; lines = 0; wanted = no_search.wanted; shows = None; passes = true; enough = false }
 
 pub record FirstHalf : Type 0 where
   pub begun : Begun

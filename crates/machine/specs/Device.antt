@@ -1,5 +1,5 @@
 -- The device: its fields and arrays as a state, and one byte with what is lent for it.
-use Rattle.std.specs.Prelude.{ℕ, Bool, cond, ◌&&◌, List, [], ◌∷◌, leb, length}
+use Rattle.std.specs.Prelude.{ℕ, Bool, cond, ◌&&◌, List, [], ◌∷◌, leb, length, Option, None}
 use Rattle.std.proofs.lemmas.List.Edits.{sets}
 use Rattle.wire.specs.Frame.{Message}
 use Rattle.reader.specs.Reading.{outside}
@@ -13,8 +13,6 @@ use Rattle.books.specs.Books.{fresh_books}
 use Rattle.guard.specs.Guard.{fresh_guard, calmed}
 use Rattle.store.specs.Store.{Store}
 use Rattle.display.specs.Display.{display_of, displayed}
-use Rattle.display.specs.declared.Display.{Display}
-use Rattle.display.specs.declared.Display.TheVariants.{Stays}
 use Rattle.carrying.specs.Carrying.{carry, texts_of}
 use Rattle.machine.specs.declared.Device.{Device}
 
@@ -61,7 +59,7 @@ pub record After : Type 0 where
   pub lent : Lent
   pub number : ℕ
   pub count : ℕ
-  pub shows : Display
+  pub shows : Option ℕ
 
 -- PROTOCOL 1.11: a command carried out becomes the frame before, with its answer; nothing else does
 abbrev pub previous_after : Previous → List Message → Before → Previous
@@ -101,7 +99,7 @@ taken m lent t =
 
 -- PROTOCOL 2.4: 7, the byte is not taken, and everything stays
 abbrev pub not_taken : Machine → Lent → After
-not_taken m lent = record { machine = m; lent = lent; number = 7; count = 0; shows = Stays }
+not_taken m lent = record { machine = m; lent = lent; number = 7; count = 0; shows = None }
 
 -- PROTOCOL 2.4: one byte with this lent
 abbrev pub lent_turn : Lent → State Store → ℕ → Turn Store

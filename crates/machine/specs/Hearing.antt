@@ -1,5 +1,5 @@
 -- DECISIONS 54: bytes of a lent part, heard up to and including the first that asks for something, or to its end: one call of `hear`.
-use Rattle.std.specs.Prelude.{ℕ, ◌+◌, cond, List, [], ◌∷◌, take, drop}
+use Rattle.std.specs.Prelude.{ℕ, ◌+◌, cond, List, [], ◌∷◌, take, drop, None}
 use Rattle.wire.specs.Frame.{Message, command_of}
 use Rattle.line.specs.Turns.{turn}
 use Rattle.line.specs.Calls.{is_quiet, called_of}
@@ -7,7 +7,6 @@ use Rattle.line.specs.declared.Call.{Call}
 use Rattle.line.specs.declared.Call.TheVariants.{Quiet, Nak, Again, Order}
 use Rattle.sheet.specs.declared.Line.{Line}
 use Rattle.carrying.specs.Carrying.{carry}
-use Rattle.display.specs.declared.Display.TheVariants.{Stays}
 use Rattle.machine.specs.Device.{Lent, enough, Machine, After, state_of, taken, not_taken}
 use Rattle.machine.specs.declared.Given.{Given}
 use Rattle.machine.specs.declared.Hearing.{Hearing}
@@ -38,7 +37,7 @@ one_more h = record { after = h.after; call = h.call; taken = h.taken + 1 }
 
 -- no byte heard: number 0, and all stays
 abbrev pub unmoved : Machine → Lent → After
-unmoved m lent = record { machine = m; lent = lent; number = 0; count = 0; shows = Stays }
+unmoved m lent = record { machine = m; lent = lent; number = 0; count = 0; shows = None }
 
 -- byte after byte, each a turn of the device; the first that asks for something ends the call
 abbrev pub hearing : Machine → Lent → List ℕ → PartHeard

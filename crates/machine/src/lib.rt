@@ -7,9 +7,9 @@ ghost use Rattle.machine.specs.Device.{fresh_fields, fields_anew};
 ghost use Rattle.machine.specs.Beginning.{long_enough, asks_nothing, texts_by, asked_of, not_begun, beginning};
 
 use books::Books;
-use display::{Display, MOST_SHOWN};
+use display::MOST_SHOWN;
 use guard::Guard;
-use kinds::Parsed;
+use kinds::{Command, Unread};
 use line::{Call, MOST_HELD, Port};
 use reader::FRAME_ROOM;
 use sheet::{Line, MOST_LINES, Search};
@@ -29,7 +29,7 @@ pub struct Given {
     pub device: Device,
     pub number: u64,
     pub count: usize,
-    pub shows: Display,
+    pub shows: Option<usize>,
 }
 
 // What a part of the line's bytes brought: what the last byte taken asked for and what it was given, and how many bytes were taken.
@@ -43,9 +43,9 @@ pub struct Hearing {
 // A command's data as read, what it looks for in the sheet, what it shows, the guard behind it, and whether that lets it pass.
 #[derive(Clone, Copy)]
 pub struct Asked {
-    pub parsed: Parsed,
+    pub parsed: Result<Command, Unread>,
     pub search: Search,
-    pub shows: Display,
+    pub shows: Option<usize>,
     pub guard: Guard,
     pub passes: bool,
 }
@@ -57,10 +57,10 @@ pub struct Begun {
     pub device: Device,
     pub call: Call,
     pub taken: usize,
-    pub parsed: Parsed,
+    pub parsed: Result<Command, Unread>,
     pub lines: usize,
     pub wanted: Line,
-    pub shows: Display,
+    pub shows: Option<usize>,
     pub passes: bool,
     pub enough: bool,
 }
@@ -103,30 +103,21 @@ pub fn begin(
     if !is_enough(room, lines, display.len()) {
         return not_begun(device);
     }
-    let line = device.line;
-    let books = device.books;
-    let start = basics::least_size(from, bytes.len());
-    let listened = line::listen(line, frame, &bytes[start..bytes.len()]);
-    let next = listened.line;
-    let call = listened.call;
-    let asked = ask(books, device.guard, call, &*frame, display);
-    let parsed = asked.parsed;
-    let search = asked.search;
-    let wanted = search.wanted;
-    let shows = asked.shows;
-    let guard = asked.guard;
+    let start = from.min(bytes.len());
+    let listened = line::listen(device.line, frame, &bytes[start..bytes.len()]);
+    let asked = ask(device.books, device.guard, listened.call, &*frame, display);
     Begun {
         device: Device {
-            line: next,
-            books,
-            guard,
+            line: listened.line,
+            guard: asked.guard,
+            ..device
         },
-        call,
+        call: listened.call,
         taken: listened.taken,
-        parsed,
-        lines: search.lines,
-        wanted,
-        shows,
+        parsed: asked.parsed,
+        lines: asked.search.lines,
+        wanted: asked.search.wanted,
+        shows: asked.shows,
         passes: asked.passes,
         enough: true,
     }
@@ -135,15 +126,14 @@ pub fn begin(
 fn not_begun(device: Device) -> Begun
     ensures { result ≡ not_begun device }
 {
-    let wanted = sheet::blank_line();
     Begun {
         device,
         call: Call::Quiet,
         taken: 0,
-        parsed: Parsed::Unknown,
+        parsed: Err(Unread::Unknown),
         lines: 0,
-        wanted,
-        shows: Display::Stays,
+        wanted: sheet::blank_line(),
+        shows: None,
         passes: true,
         enough: false,
     }
@@ -157,45 +147,40 @@ fn is_enough(room: usize, lines: usize, shown: usize) -> bool
 }
 
 // An order's data stands in the frame from its fourth byte on.
-fn ask(books: Books, guard: Guard, call: Call, frame: &[u8], display: &mut [u8]) -> Asked
-    requires { length frame.now ≡ 256 }
+fn ask(
+    books: Books,
+    guard: Guard,
+    call: Call,
+    frame: &[u8; FRAME_ROOM],
+    display: &mut [u8],
+) -> Asked
     ensures value { result ≡ asked_of books guard call frame.now }
     ensures display_after { display.new ≡ displayed display.old (texts_by call frame.now) }
 {
-    match call {
-        Call::Quiet => ask_nothing(guard),
-        Call::Nak => ask_nothing(guard),
-        Call::Again => ask_nothing(guard),
-        Call::Order {
-            seq: _,
-            code,
-            count,
-        } => {
-            let end = basics::least_size(count, MOST_HELD) + 3;
-            let parsed = command::parse(code, &frame[3..end]);
-            let search = carrying::search_in(books, parsed);
-            let judged = guard::judge(guard, parsed, &frame[3..end]);
-            let after = judged.guard;
-            let shows = display::show(code, &frame[3..end], display);
-            Asked {
-                parsed,
-                search,
-                shows,
-                guard: after,
-                passes: judged.passes,
-            }
-        }
+    let Call::Order { code, count, .. } = call else {
+        return ask_nothing(guard);
+    };
+    let end = count.min(MOST_HELD) + 3;
+    let parsed = command::parse(code, &frame[3..end]);
+    let search = carrying::search_in(books, parsed);
+    let judged = guard::judge(guard, parsed, &frame[3..end]);
+    let shows = display::show(code, &frame[3..end], display);
+    Asked {
+        parsed,
+        search,
+        shows,
+        guard: judged.guard,
+        passes: judged.passes,
     }
 }
 
 fn ask_nothing(guard: Guard) -> Asked
     ensures { result ≡ asks_nothing guard }
 {
-    let search = rules::searches::no_search();
     Asked {
-        parsed: Parsed::Unknown,
-        search,
-        shows: Display::Stays,
+        parsed: Err(Unread::Unknown),
+        search: rules::searches::no_search(),
+        shows: None,
         guard,
         passes: true,
     }

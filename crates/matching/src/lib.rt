@@ -5,10 +5,10 @@ ghost use Rattle.std.specs.Prelude.{◌≡◌, get_or};
 ghost use Rattle.sheet.specs.Sheet.{blank};
 ghost use Rattle.sheet.specs.Searches.{place_of, match_of};
 
-use sheet::{Line, MOST_LINES, Match, Search};
+use sheet::{Line, MOST_LINES, Search};
 
 // From the newest of the lines searched back: what the first that matches brings.
-pub fn match_kept(sheet: [Line; MOST_LINES], search: Search) -> Match
+pub fn match_kept(sheet: [Line; MOST_LINES], search: Search) -> Option<u64>
     ensures { result ≡ match_of sheet search }
 {
     let at = place_kept(sheet, search);
@@ -21,9 +21,7 @@ fn place_kept(sheet: [Line; MOST_LINES], search: Search) -> usize
 {
     let wanted = search.wanted;
     let n = search.lines;
-    let mut i = n;
-    while 0 < i {
-        i -= 1;
+    for i in (0..n).rev() {
         if sheet::matches_line(line_at(sheet, i), wanted) {
             return i;
         }

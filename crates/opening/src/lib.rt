@@ -5,14 +5,14 @@
 ghost use Rattle.std.specs.Prelude.{◌≡◌, ◌≤◌, length};
 ghost use Rattle.opening.specs.Opening.{Arguments, Opened, Followed};
 
-use options::{Argument, Asked, Ends};
+use options::{Argument, Asked, Ends, Recordings};
 use std::env::{Env, FillError};
 use std::fs::{File, OpenOptions};
 use std::io::{Error, ErrorKind, Result, Stderr, Stdin, Stdout};
 use std::rt::Files;
 use system::NAME_ROOM;
 
-// The numbers of what is open: standard input, standard output, and the files; -1 is none.
+// The numbers of what is open: standard input, standard output, and the files.
 pub const INPUT: i32 = 0;
 
 pub const OUTPUT: i32 = 1;
@@ -37,19 +37,11 @@ pub struct Held {
     pub tape: Option<File>,
 }
 
-// A recording to read and to append to, and whether that can be done.
+// A recording to read and to append to.
 #[derive(Drop)]
 struct Tape {
-    old: Option<File>,
-    tape: Option<File>,
-    ready: bool,
-}
-
-// A line or an earlier recording, and whether it could be opened.
-#[derive(Drop)]
-struct Found {
-    file: Option<File>,
-    ready: bool,
+    old: File,
+    tape: File,
 }
 
 // Before any file is opened.
@@ -75,105 +67,109 @@ pub fn file_at(held: &Held, number: i32) -> Result<&File> {
         NEWEST => &held.newest,
         _ => &held.tape,
     };
-    match file {
-        Some(file) => Ok(file),
-        None => Err(Error::other("nothing is open there")),
-    }
+    file.as_ref()
+        .ok_or_else(|| Error::other("nothing is open there"))
 }
 
 // All that the arguments ask for, or a message.
-pub fn open_ends<R: Env + Files<File = File>>(rt: &R, held: &mut Held) -> Ends
+pub fn open_ends<R: Env + Files<File = File>>(rt: &R, held: &mut Held) -> Option<Ends>
     ensures { Opened result }
 {
-    let errors = held.errors;
-    let asked = arguments(rt);
-    if !asked.fits {
-        refuse(errors);
-        return options::none_open();
+    let Some(asked) = arguments(rt) else {
+        refuse(held.errors);
+        return None;
+    };
+    if let Some(named) = asked.recordings {
+        hold_recordings(rt, held, named)?;
     }
-    if !are_there(rt, errors, asked.first, asked.last) {
-        return options::none_open();
+    if let Some(place) = asked.line {
+        held.line = Some(line_at(rt, held.errors, place)?);
     }
-    let tape = recording_at(rt, errors, asked.last);
-    if !tape.ready {
-        return options::none_open();
-    }
-    let line = line_at(rt, errors, asked.line);
-    if !line.ready {
-        return options::none_open();
-    }
-    held.newest = tape.old;
-    held.tape = tape.tape;
-    held.line = line.file;
-    let ends = options::ends_of(asked, LINE, NEWEST, TAPE);
-    next_recording(rt, held, ends)
+    next_recording(rt, held, options::ends_of(asked, LINE, NEWEST, TAPE))
 }
 
 // The next recording, where one is named, instead of the one that was replayed; or a message.
-pub fn next_recording<R: Env + Files<File = File>>(rt: &R, held: &mut Held, ends: Ends) -> Ends
+pub fn next_recording<R: Env + Files<File = File>>(
+    rt: &R,
+    held: &mut Held,
+    ends: Ends,
+) -> Option<Ends>
     ensures { Followed ends result }
 {
-    let next = earlier_at(rt, held.errors, options::next_place(ends));
-    if !next.ready {
-        return options::none_open();
-    }
-    held.old = next.file;
-    options::next_of(ends, OLD)
+    held.old = match options::next_place(ends) {
+        Some(place) => Some(earlier_at(rt, held.errors, place)?),
+        None => None,
+    };
+    Some(options::next_of(ends, OLD))
 }
 
-// Whether the recordings before the last can be opened: looked at before anything is made.
-fn are_there<R: Env + Files<File = File>>(
+// The last recording, where those before it can be opened: that is looked at before anything is made.
+fn hold_recordings<R: Env + Files<File = File>>(
     rt: &R,
-    errors: Stderr,
-    first: usize,
-    last: usize,
-) -> bool {
-    for place in first..last {
-        let one = earlier_at(rt, errors, place);
-        if !one.ready {
-            return false;
-        }
+    held: &mut Held,
+    named: Recordings,
+) -> Option<()> {
+    for place in named.first..named.last {
+        let _ = earlier_at(rt, held.errors, place)?;
     }
-    true
+    let recording = recording_at(rt, held.errors, named.last)?;
+    held.newest = Some(recording.old);
+    held.tape = Some(recording.tape);
+    Some(())
 }
 
-// The argument's name, as a recording that is only read; place 0 is none.
-fn earlier_at<R: Env + Files<File = File>>(rt: &R, errors: Stderr, place: usize) -> Found {
-    if place == 0 {
-        return no_file();
-    }
-    let mut room = [0u8; NAME_ROOM];
-    let n = system::arg(rt, place, &mut room);
-    let name = &room[..n];
-    told(
+// The argument's name, as a recording that is only read.
+fn earlier_at<R: Env + Files<File = File>>(rt: &R, errors: Stderr, place: usize) -> Option<File> {
+    opened_at(
+        rt,
         errors,
+        place,
         b"error: the recording can't be opened: ",
-        name,
-        system::open_read(rt, name),
+        |name| system::open_read(rt, name),
     )
 }
 
-fn no_file() -> Found {
-    Found {
-        file: None,
-        ready: true,
-    }
+// The argument's name, as a recording.
+fn recording_at<R: Env + Files<File = File>>(rt: &R, errors: Stderr, place: usize) -> Option<Tape> {
+    opened_at(
+        rt,
+        errors,
+        place,
+        b"error: the recording can't be kept: ",
+        |name| open_recording(rt, name),
+    )
 }
 
-// What was opened by this name, or a message.
-fn told(errors: Stderr, what: &[u8], name: &[u8], opened: Result<File>) -> Found {
-    match opened {
-        Ok(file) => Found {
-            file: Some(file),
-            ready: true,
-        },
+// The argument's name, as a line.
+fn line_at<R: Env + Files<File = File>>(rt: &R, errors: Stderr, place: usize) -> Option<File> {
+    opened_at(
+        rt,
+        errors,
+        place,
+        b"error: the line can't be opened: ",
+        |name| system::open_update(rt, name),
+    )
+}
+
+// What is opened by the argument's name, or a message.
+fn opened_at<R: Env, T, F: FnOnce(&[u8]) -> Result<T>>(
+    rt: &R,
+    errors: Stderr,
+    place: usize,
+    what: &[u8],
+    opens: F,
+) -> Option<T>
+    requires { F.IsAlwaysCallable opens }
+{
+    let mut room = [0u8; NAME_ROOM];
+    let n = system::arg(rt, place, &mut room);
+    let name = &room[..n];
+    match opens(name) {
+        Ok(opened) => Some(opened),
         Err(why) => {
             system::write(&errors, what);
             system::fail(&errors, name, &why);
-            Found {
-                file: None,
-                ready: false,
-            }
+            None
         }
     }
 }
@@ -185,19 +181,17 @@ fn refuse(errors: Stderr) {
     );
 }
 
-fn arguments<R: Env>(rt: &R) -> Asked
+fn arguments<R: Env>(rt: &R) -> Option<Asked>
     ensures { Arguments result }
 {
     let mut asked = options::none_asked();
-    let mut place = 1;
-    while place < usize::MAX {
+    for place in 1..usize::MAX {
         let Some(word) = argument(rt, place) else {
             return options::asked_of(asked, place);
         };
-        asked = options::asked_with(asked, place, word);
-        place += 1;
+        asked = options::asked_with(asked, place, word)?;
     }
-    options::asked_of(asked, place)
+    options::asked_of(asked, usize::MAX)
 }
 
 // The argument at this place, where there is one.
@@ -205,7 +199,7 @@ fn argument<R: Env>(rt: &R, place: usize) -> Option<Argument> {
     let mut word = [0u8; NAME_ROOM];
     match rt.arg(place, &mut word) {
         Ok(n) => Some(options::argument_of(&word[..n])),
-        Err(FillError::TooLong) => Some(options::argument_of(b"")),
+        Err(FillError::TooLong) => Some(Argument::Neither),
         Err(FillError::NotPresent) => None,
     }
 }
@@ -223,57 +217,20 @@ fn make<R: Files<File = File>>(rt: &R, name: &[u8]) -> Result<File> {
         .open(rt, system::text_of(name)?)
 }
 
-// The argument's name, as a recording; place 0 is none.
-fn recording_at<R: Env + Files<File = File>>(rt: &R, errors: Stderr, place: usize) -> Tape {
-    if place == 0 {
-        return Tape {
-            old: None,
-            tape: None,
-            ready: true,
-        };
-    }
-    let mut room = [0u8; NAME_ROOM];
-    let n = system::arg(rt, place, &mut room);
-    let name = &room[..n];
-    match open_recording(rt, name) {
-        Ok(tape) => tape,
-        Err(why) => no_tape(errors, name, why),
-    }
-}
-
 // Opened or made; it and its folder are safe.
 fn open_recording<R: Files<File = File>>(rt: &R, name: &[u8]) -> Result<Tape> {
     let tape = open_or_make(rt, name)?;
     let old = system::open_read(rt, name)?;
     tape.sync_all()?;
     make_folder_safe(rt, name)?;
-    Ok(Tape {
-        old: Some(old),
-        tape: Some(tape),
-        ready: true,
-    })
+    Ok(Tape { old, tape })
 }
 
 // A file that is there or new: either is written at its end.
 fn open_or_make<R: Files<File = File>>(rt: &R, name: &[u8]) -> Result<File> {
     match open_append(rt, name) {
-        Ok(file) => Ok(file),
-        Err(why) => {
-            if why.kind() == ErrorKind::NotFound {
-                return make(rt, name);
-            }
-            Err(why)
-        }
-    }
-}
-
-fn no_tape(errors: Stderr, name: &[u8], why: Error) -> Tape {
-    system::write(&errors, b"error: the recording can't be kept: ");
-    system::fail(&errors, name, &why);
-    Tape {
-        old: None,
-        tape: None,
-        ready: false,
+        Err(why) if why.kind() == ErrorKind::NotFound => make(rt, name),
+        opened => opened,
     }
 }
 
@@ -283,28 +240,12 @@ fn make_folder_safe<R: Files<File = File>>(rt: &R, name: &[u8]) -> Result<()> {
     if end == 0 {
         return sync(rt, b".");
     }
-    if name.len() < end {
+    let Some(folder) = name.get(..end) else {
         return Err(Error::new(ErrorKind::InvalidInput, "the name has no folder"));
-    }
-    sync(rt, &name[0..end])
+    };
+    sync(rt, folder)
 }
 
 fn sync<R: Files<File = File>>(rt: &R, folder: &[u8]) -> Result<()> {
     system::open_read(rt, folder)?.sync_all()
-}
-
-// The argument's name, as a line; place 0 is none.
-fn line_at<R: Env + Files<File = File>>(rt: &R, errors: Stderr, place: usize) -> Found {
-    if place == 0 {
-        return no_file();
-    }
-    let mut room = [0u8; NAME_ROOM];
-    let n = system::arg(rt, place, &mut room);
-    let name = &room[..n];
-    told(
-        errors,
-        b"error: the line can't be opened: ",
-        name,
-        system::open_update(rt, name),
-    )
 }

@@ -1,3 +1,1 @@
-pub mod Asking
-pub mod Following
 pub mod Forms

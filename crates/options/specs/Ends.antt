@@ -1,55 +1,41 @@
 -- LINE 1.1, 2.1: the numbers of what `printer` holds open.
-use Rattle.std.specs.Prelude.{ℕ, ◌+◌, ◌-◌, Bool, true, false, cond, not, eqb, ltb, ℤ, pos, negsuc}
+use Rattle.std.specs.Prelude.{ℕ, ◌+◌, ◌-◌, Bool, false, Option, Some, None, is_some, option_map, cond, ltb, ℤ, pos}
 use Rattle.options.specs.declared.Asked.{Asked}
 use Rattle.options.specs.declared.Ends.{Ends}
+use Rattle.options.specs.declared.Recordings.{Recordings}
 
--- no number: -1
-abbrev pub none : ℤ
-none = negsuc 0
-
--- LINE 1.3: nothing is opened
-abbrev pub none_open : Ends
-none_open =
-    record {
-      input = none;
-      output = none;
-      old = none;
-      newest = none;
-      tape = none;
-      place = 0;
-      last = 0;
-      online = false;
-      replays = false;
-      ready = false;
-    }
+abbrev pub place_before : Option Recordings → ℕ
+place_before None = 0
+place_before (Some named) = named.first - 1
 
 -- a LINE, or standard input, 0, and standard output, 1; the last recording, or none. The first comes next
 abbrev pub ends_of : Asked → (line newest tape : ℤ) → Ends
 ends_of asked line newest tape =
-    let online = not (eqb asked.line 0) in
-    let replays = not (eqb asked.last 0) in
+    let online = is_some asked.line in
     record {
       input = cond online line (pos 0);
       output = cond online line (pos 1);
-      old = none;
-      newest = cond replays newest none;
-      tape = cond replays tape none;
-      place = asked.first - 1;
-      last = asked.last;
+      old = None;
+      newest = option_map (λ named. newest) asked.recordings;
+      tape = option_map (λ named. tape) asked.recordings;
+      place = place_before asked.recordings;
+      last = option_map (λ named. named.last) asked.recordings;
       online = online;
-      replays = replays;
-      ready = true;
     }
 
 -- LINE 2.1: recordings stand behind each other
+abbrev pub is_before : (place : ℕ) → Option ℕ → Bool
+is_before place None = false
+is_before place (Some last) = ltb place last
+
 abbrev pub names_left : Ends → Bool
-names_left ends = ltb ends.place ends.last
+names_left ends = is_before ends.place ends.last
 
 -- the last one is open from the start
-abbrev pub next_place : Ends → ℕ
-next_place ends = cond (names_left ends) (cond (eqb (ends.place + 1) ends.last) 0 (ends.place + 1)) 0
+abbrev pub next_place : Ends → Option ℕ
+next_place ends = cond (is_before (ends.place + 1) ends.last) (Some (ends.place + 1)) None
 
-abbrev pub next_at : Ends → (old : ℤ) → Ends
+abbrev pub next_at : Ends → (old : Option ℤ) → Ends
 next_at ends old =
     record {
       input = ends.input;
@@ -60,9 +46,7 @@ next_at ends old =
       place = ends.place + 1;
       last = ends.last;
       online = ends.online;
-      replays = ends.replays;
-      ready = ends.ready;
     }
 
 abbrev pub next_of : Ends → (old : ℤ) → Ends
-next_of ends old = cond (names_left ends) (next_at ends (cond (eqb (next_place ends) 0) ends.newest old)) ends
+next_of ends old = cond (names_left ends) (next_at ends (cond (is_some (next_place ends)) (Some old) ends.newest)) ends

@@ -1,8 +1,9 @@
 -- LINE 1: what the arguments of `printer` ask for.
-use Rattle.std.specs.Prelude.{ℕ, ◌+◌, true, false, cond, List, [], ◌∷◌, eqb, ltb, length, get_or}
+use Rattle.std.specs.Prelude.{ℕ, ◌+◌, Option, Some, None, Bool, false, unwrap_or, cond, List, [], ◌∷◌, eqb, ltb, length, get_or}
 use Rattle.options.specs.declared.Argument.{Argument}
 use Rattle.options.specs.declared.Argument.TheVariants.{Sign, Name, Neither}
 use Rattle.options.specs.declared.Asked.{Asked}
+use Rattle.options.specs.declared.Recordings.{Recordings}
 
 -- LINE 1.2: `-l` is 2Dh and 6Ch; a name begins with any byte but 2Dh, and has one at least
 abbrev pub argument_of : List ℕ → Argument
@@ -12,35 +13,44 @@ argument_of s =
     (cond (eqb (length s) 2) (cond (eqb (get_or s 1 0) 108) Sign Neither) Neither)
     Name)
 
--- where LINE and the first and the last RECORDING stand, 0 for none; LINE 1.3: arguments that do not fit name none
+-- where LINE and the first and the last RECORDING stand, where there are any; LINE 1.3: arguments that do not fit ask for nothing
 abbrev pub none_asked : Asked
-none_asked = record { fits = true; line = 0; first = 0; last = 0 }
-
-abbrev pub not_of_the_form : Asked
-not_of_the_form = record { fits = false; line = 0; first = 0; last = 0 }
+none_asked = record { line = None; recordings = None }
 
 -- LINE 1.1: -l stands first, and LINE behind it; every name behind that is a RECORDING
-abbrev pub signed_at : Asked → (place : ℕ) → Asked
-signed_at asked place = cond (eqb place 1) (record { fits = asked.fits; line = 2; first = 0; last = 0 }) not_of_the_form
+abbrev pub signed_at : (place : ℕ) → Option Asked
+signed_at place = cond (eqb place 1) (Some (record { line = Some 2; recordings = None })) None
+
+abbrev pub is_line : Option ℕ → (place : ℕ) → Bool
+is_line None place = false
+is_line (Some line) place = eqb line place
+
+abbrev pub first_of : Option Recordings → (place : ℕ) → ℕ
+first_of None place = place
+first_of (Some named) place = named.first
 
 abbrev pub named_at : Asked → (place : ℕ) → Asked
 named_at asked place =
-    cond (eqb place asked.line) asked
-    (record { fits = asked.fits; line = asked.line; first = cond (eqb asked.first 0) place asked.first; last = place })
+    cond (is_line asked.line place) asked
+    (record { line = asked.line; recordings = Some (record { first = first_of asked.recordings place; last = place }) })
 
-abbrev pub asked_with : Asked → (place : ℕ) → Argument → Asked
-asked_with asked place Sign = signed_at asked place
-asked_with asked place Name = named_at asked place
-asked_with asked place Neither = not_of_the_form
+abbrev pub asked_with : Asked → (place : ℕ) → Argument → Option Asked
+asked_with asked place Sign = signed_at place
+asked_with asked place Name = Some (named_at asked place)
+asked_with asked place Neither = None
 
--- -l alone is of no form. The program's own name is counted.
-abbrev pub asked_of : Asked → (count : ℕ) → Asked
-asked_of asked count = cond asked.fits (cond (ltb asked.line count) asked not_of_the_form) not_of_the_form
+-- -l alone is of no form. The program's own name is counted, and has place 0.
+abbrev pub asked_of : Asked → (count : ℕ) → Option Asked
+asked_of asked count = cond (ltb (unwrap_or asked.line 0) count) (Some asked) None
 
 -- one argument behind the other, from a place on
-abbrev pub asked_from : Asked → (place : ℕ) → List Argument → Asked
-asked_from asked place [] = asked
-asked_from asked place (a ∷ rest) = asked_from (asked_with asked place a) (place + 1) rest
+abbrev pub asked_then : Option Asked → (Asked → Option Asked) → Option Asked
+asked_then None more = None
+asked_then (Some asked) more = more asked
 
-abbrev pub asked_for : List Argument → Asked
-asked_for arguments = asked_of (asked_from none_asked 1 arguments) (length arguments + 1)
+abbrev pub asked_from : Asked → (place : ℕ) → List Argument → Option Asked
+asked_from asked place [] = Some asked
+asked_from asked place (a ∷ rest) = asked_then (asked_with asked place a) (λ more. asked_from more (place + 1) rest)
+
+abbrev pub asked_for : List Argument → Option Asked
+asked_for arguments = asked_then (asked_from none_asked 1 arguments) (λ asked. asked_of asked (length arguments + 1))

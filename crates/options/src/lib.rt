@@ -1,62 +1,56 @@
 // What the arguments of `printer` ask for: printer [-l LINE] [RECORDING].. (LINE 1).
 #![tactic(auto)]
 
-ghost use Rattle.std.specs.Prelude.{◌≡◌, ◌-◌, eqb, cond};
-ghost use Rattle.options.specs.Options.{argument_of, none_asked, not_of_the_form, signed_at, named_at, asked_with, asked_of};
-ghost use Rattle.options.specs.Ends.{none_open, ends_of, names_left, next_place, next_of};
+ghost use Rattle.std.specs.Prelude.{◌≡◌};
+ghost use Rattle.options.specs.Options.{argument_of, none_asked, named_at, asked_with, asked_of};
+ghost use Rattle.options.specs.Ends.{ends_of, names_left, next_place, next_of};
 
 // LINE 1.2: the sign before a LINE; a name; or neither.
-#[derive(Clone, Copy)]
+#[derive(Clone, Copy, PartialEq, Eq)]
 pub enum Argument {
     Sign,
     Name,
     Neither,
 }
 
-// What was asked for: whether the arguments are of the form, and the places of LINE and of the first and the last RECORDING among them;
-// 0 where there is none. From the first to the last every argument is one.
-#[derive(Clone, Copy)]
-pub struct Asked {
-    pub fits: bool,
-    pub line: usize,
+// The places of the first and the last RECORDING among the arguments: from the first to the last every argument is one.
+#[derive(Clone, Copy, PartialEq, Eq)]
+pub struct Recordings {
     pub first: usize,
     pub last: usize,
 }
 
-// The numbers of what is open: where bytes come from, where answers go, the recording that is replayed, the last one to read and to append to, -1
-// where there is none; the places of the recording that is replayed, or of the argument before the first, and of the last; whether it is a LINE, whether there is a recording to replay,
-// and whether all is open.
-#[derive(Clone, Copy)]
+// What was asked for: the place of LINE among the arguments, and those of the recordings, where there are any.
+#[derive(Clone, Copy, PartialEq, Eq)]
+pub struct Asked {
+    pub line: Option<usize>,
+    pub recordings: Option<Recordings>,
+}
+
+// The numbers of what is open: where bytes come from, where answers go, the recording that is replayed, the last one to read and to append to, where
+// there is one; the places of the recording that is replayed, or of the argument before the first, and of the last, where there is one; whether it
+// is a LINE.
+#[derive(Clone, Copy, PartialEq, Eq)]
 pub struct Ends {
     pub input: i32,
     pub output: i32,
-    pub old: i32,
-    pub newest: i32,
-    pub tape: i32,
+    pub old: Option<i32>,
+    pub newest: Option<i32>,
+    pub tape: Option<i32>,
     pub place: usize,
-    pub last: usize,
+    pub last: Option<usize>,
     pub online: bool,
-    pub replays: bool,
-    pub ready: bool,
 }
 
 // What one argument is.
 pub fn argument_of(s: &[u8]) -> Argument
     ensures { result ≡ argument_of s.now }
 {
-    if s.len() == 0 {
-        return Argument::Neither;
+    match s {
+        [b'-', b'l'] => Argument::Sign,
+        [] | [b'-', ..] => Argument::Neither,
+        _ => Argument::Name,
     }
-    if s[0] != b'-' {
-        return Argument::Name;
-    }
-    if s.len() != 2 {
-        return Argument::Neither;
-    }
-    if s[1] != b'l' {
-        return Argument::Neither;
-    }
-    Argument::Sign
 }
 
 // Before the first argument.
@@ -64,47 +58,23 @@ pub fn none_asked() -> Asked
     ensures { result ≡ none_asked }
 {
     Asked {
-        fits: true,
-        line: 0,
-        first: 0,
-        last: 0,
+        line: None,
+        recordings: None,
     }
 }
 
-fn not_of_the_form() -> Asked
-    ensures { result ≡ not_of_the_form }
-{
-    Asked {
-        fits: false,
-        line: 0,
-        first: 0,
-        last: 0,
-    }
-}
-
-// With one argument more, at its place; the first has place 1.
-pub fn asked_with(asked: Asked, place: usize, a: Argument) -> Asked
+// With one argument more, at its place; the first has place 1. None is asked for by arguments that are of no form: -l stands first, and LINE behind
+// it.
+pub fn asked_with(asked: Asked, place: usize, a: Argument) -> Option<Asked>
     ensures { result ≡ asked_with asked place a }
 {
     match a {
-        Argument::Sign => signed(asked, place),
-        Argument::Name => named(asked, place),
-        Argument::Neither => not_of_the_form(),
-    }
-}
-
-// -l stands first, and LINE behind it.
-fn signed(asked: Asked, place: usize) -> Asked
-    ensures { result ≡ signed_at asked place }
-{
-    if place != 1 {
-        return not_of_the_form();
-    }
-    Asked {
-        fits: asked.fits,
-        line: 2,
-        first: 0,
-        last: 0,
+        Argument::Sign if place == 1 => Some(Asked {
+            line: Some(2),
+            recordings: None,
+        }),
+        Argument::Name => Some(named(asked, place)),
+        _ => None,
     }
 }
 
@@ -112,56 +82,21 @@ fn signed(asked: Asked, place: usize) -> Asked
 fn named(asked: Asked, place: usize) -> Asked
     ensures { result ≡ named_at asked place }
 {
-    if place == asked.line {
+    if asked.line == Some(place) {
         return asked;
     }
+    let first = asked.recordings.map_or(place, |named| named.first);
     Asked {
-        fits: asked.fits,
-        line: asked.line,
-        first: place_or(asked.first, place),
-        last: place,
+        recordings: Some(Recordings { first, last: place }),
+        ..asked
     }
-}
-
-// A place, or where there is none yet this one.
-fn place_or(place: usize, this: usize) -> usize
-    ensures { result ≡ cond (eqb place 0) this place }
-{
-    if place == 0 {
-        return this;
-    }
-    place
 }
 
 // Behind the last of them; `count` counts the program's own name too. A LINE that is asked for has to be there.
-pub fn asked_of(asked: Asked, count: usize) -> Asked
+pub fn asked_of(asked: Asked, count: usize) -> Option<Asked>
     ensures { result ≡ asked_of asked count }
 {
-    if !asked.fits {
-        return not_of_the_form();
-    }
-    if asked.line < count {
-        return asked;
-    }
-    not_of_the_form()
-}
-
-// Nothing is open.
-pub fn none_open() -> Ends
-    ensures { result ≡ none_open }
-{
-    Ends {
-        input: -1,
-        output: -1,
-        old: -1,
-        newest: -1,
-        tape: -1,
-        place: 0,
-        last: 0,
-        online: false,
-        replays: false,
-        ready: false,
-    }
+    (asked.line.unwrap_or(0) < count).then_some(asked)
 }
 
 // All that is asked for is open: a LINE, or standard input and output; the last recording, to read and to append to, or none. No recording is
@@ -169,50 +104,35 @@ pub fn none_open() -> Ends
 pub fn ends_of(asked: Asked, line: i32, newest: i32, tape: i32) -> Ends
     ensures { result ≡ ends_of asked line newest tape }
 {
-    let online = asked.line != 0;
-    let replays = asked.last != 0;
+    let online = asked.line.is_some();
     Ends {
-        input: either(online, line, 0),
-        output: either(online, line, 1),
-        old: -1,
-        newest: either(replays, newest, -1),
-        tape: either(replays, tape, -1),
-        place: place_before(asked.first),
-        last: asked.last,
+        input: if online { line } else { 0 },
+        output: if online { line } else { 1 },
+        old: None,
+        newest: asked.recordings.map(|_| newest),
+        tape: asked.recordings.map(|_| tape),
+        place: asked
+            .recordings
+            .map_or(0, |named| named.first.saturating_sub(1)),
+        last: asked.recordings.map(|named| named.last),
         online,
-        replays,
-        ready: true,
     }
-}
-
-fn place_before(place: usize) -> usize
-    ensures { result ≡ place - 1 }
-{
-    if place == 0 {
-        return 0;
-    }
-    place - 1
 }
 
 // Whether a recording is named behind the one that is replayed.
 pub fn names_left(ends: Ends) -> bool
     ensures { result ≡ names_left ends }
 {
-    ends.place < ends.last
+    ends.last.is_some_and(|last| ends.place < last)
 }
 
-// The place of the next recording, where it has to be opened; 0 where none is named, or where it is the last, which is open.
-pub fn next_place(ends: Ends) -> usize
+// The place of the next recording, where it has to be opened; none where none is named, or where it is the last, which is open.
+pub fn next_place(ends: Ends) -> Option<usize>
     ensures { result ≡ next_place ends }
 {
-    if !names_left(ends) {
-        return 0;
-    }
-    let place = ends.place + 1;
-    if place == ends.last {
-        return 0;
-    }
-    place
+    let last = ends.last?;
+    let place = ends.place.checked_add(1)?;
+    (place < last).then_some(place)
 }
 
 // The next recording is replayed, where one is named; `old` reads it, unless it is the last.
@@ -222,18 +142,10 @@ pub fn next_of(ends: Ends, old: i32) -> Ends
     if !names_left(ends) {
         return ends;
     }
-    let newest = next_place(ends) == 0;
-    let mut next = ends;
-    next.old = either(newest, ends.newest, old);
-    next.place = ends.place + 1;
-    next
-}
-
-fn either(first: bool, a: i32, b: i32) -> i32
-    ensures { result ≡ cond first a b }
-{
-    if first {
-        return a;
+    let newest = next_place(ends).is_none();
+    Ends {
+        old: if newest { ends.newest } else { Some(old) },
+        place: ends.place + 1,
+        ..ends
     }
-    b
 }

@@ -1,12 +1,11 @@
 -- Bytes shown one by one; the names that a page has for its marks.
 use Prim.Native.Nat.{ℕ, ◌+◌, ◌≤◌, ◌<◌}
-use mathlib.Core.Path.{◌≡◌, refl, ap, ◌∙◌}
+use mathlib.Core.Path.{◌≡◌, refl, ap}
 use mathlib.Core.List.{List, [], ◌∷◌, ◌++◌}
 use native.Mathlib.Numerals.{add-one}
 use lib.ListN.{length, get_or, drop, drop_of_length-le}
 use lib.Seq.{drop-cons}
-use borrow.Author.Tests.{eq-eqb, ne_eqb}
-use Rattle.letters.specs.Letters.{bytes}
+use borrow.Author.Tests.{ne_eqb}
 use Rattle.sentences.specs.Filled.{shown, escaped}
 use Rattle.pages.specs.Pages.{each, page_letter}
 
@@ -18,15 +17,6 @@ module _ (g : ℕ → List ℕ) (bs : List ℕ) (i : ℕ) where
   each_done h = rw (drop_of_length-le bs h)
 
 module _ (b : ℕ) where
-  pub as_amp : b ≡ 0x26 → bytes "&amp;" ≡ page_letter b
-  as_amp e = rw e
-
-  pub as_lt : b ≡ 0x3C → bytes "&lt;" ≡ page_letter b
-  as_lt e = rw e
-
-  pub as_gt : b ≡ 0x3E → bytes "&gt;" ≡ page_letter b
-  as_gt e = rw e
-
   pub as_shown : (b ≡ 0x26 → ⊥) → (b ≡ 0x3C → ⊥) → (b ≡ 0x3E → ⊥) → shown b ≡ page_letter b
   as_shown x y z = rw (ne_eqb b 0x26 x, ne_eqb b 0x3C y, ne_eqb b 0x3E z)
 

@@ -7,7 +7,7 @@ use Rattle.sentences.specs.Filled.{shown, escaped}
 use Rattle.captions.specs.Captions.{saying_word, kind_word}
 use Rattle.items.specs.declared.Kind.{Kind}
 use Rattle.items.specs.declared.Value.{Value}
-use Rattle.items.specs.declared.Value.TheVariants.{Nothing, Number, Sum, Thousandths, Digits, Letter, Byte, Bytes, InData, Said}
+use Rattle.items.specs.declared.Value.TheVariants.{Number, Sum, Thousandths, Digits, Letter, Byte, Bytes, InData, Said}
 
 -- what each byte is shown as, one behind the other
 abbrev pub each : (ℕ → List ℕ) → List ℕ → List ℕ
@@ -45,7 +45,6 @@ bytes_from least most = hex_two least ++ bytes " to " ++ hex_two most
 
 -- a value
 abbrev pub value_text : Value → List ℕ
-value_text Nothing = []
 value_text (Number n) = decimal n
 value_text (Sum n) = leva n
 value_text (Thousandths n) = thousandths n

@@ -14,11 +14,9 @@ use sentences::{put, put_data, put_digits, put_hex, put_leva, put_number};
 pub fn put_hexes(buf: &mut [u8], at: usize, bytes: &[u8]) -> usize
     ensures { Put buf.old at (each hex_of bytes.now) buf.new result }
 {
-    let mut place = basics::least_size(at, buf.len());
-    let mut i = 0;
-    while i < bytes.len() {
-        place = put_byte(buf, place, bytes[i]);
-        i += 1;
+    let mut place = at.min(buf.len());
+    for &b in bytes {
+        place = put_byte(buf, place, b);
     }
     place
 }
@@ -43,11 +41,9 @@ pub fn put_letters(buf: &mut [u8], at: usize, html: bool, bytes: &[u8]) -> usize
 fn put_page_letters(buf: &mut [u8], at: usize, bytes: &[u8]) -> usize
     ensures { Put buf.old at (each page_letter bytes.now) buf.new result }
 {
-    let mut place = basics::least_size(at, buf.len());
-    let mut i = 0;
-    while i < bytes.len() {
-        place = put_letter(buf, place, bytes[i]);
-        i += 1;
+    let mut place = at.min(buf.len());
+    for &b in bytes {
+        place = put_letter(buf, place, b);
     }
     place
 }
@@ -56,27 +52,19 @@ fn put_page_letters(buf: &mut [u8], at: usize, bytes: &[u8]) -> usize
 fn put_letter(buf: &mut [u8], at: usize, b: u8) -> usize
     ensures { Put buf.old at (page_letter b) buf.new result }
 {
-    if b == 0x26 {
-        return put(buf, at, b"&amp;");
+    match b {
+        b'&' => put(buf, at, b"&amp;"),
+        b'<' => put(buf, at, b"&lt;"),
+        b'>' => put(buf, at, b"&gt;"),
+        _ => put_data(buf, at, &[b]),
     }
-    if b == 0x3C {
-        return put(buf, at, b"&lt;");
-    }
-    if b == 0x3E {
-        return put(buf, at, b"&gt;");
-    }
-    let one = [b];
-    put_data(buf, at, &one)
 }
 
 // One of two texts.
 fn put_either(buf: &mut [u8], at: usize, html: bool, page: &[u8], plain: &[u8]) -> usize
     ensures { Put buf.old at (cond html page.now plain.now) buf.new result }
 {
-    if html {
-        return put(buf, at, page);
-    }
-    put(buf, at, plain)
+    put(buf, at, if html { page } else { plain })
 }
 
 // A line begins with its label; in a page it is a row of a table.
@@ -104,12 +92,11 @@ pub fn put_close(buf: &mut [u8], at: usize, html: bool) -> usize
     put_either(buf, at, html, b"</td></tr>\n", b"\n")
 }
 
-// A value; nothing where there is none.
+// A value.
 pub fn put_value(buf: &mut [u8], at: usize, value: Value) -> usize
     ensures { Put buf.old at (value_text value) buf.new result }
 {
     match value {
-        Value::Nothing => put(buf, at, b""),
         Value::Number(n) => put_number(buf, at, n),
         Value::Sum(n) => put_leva(buf, at, n),
         Value::Thousandths(n) => put_thousandths(buf, at, n),
@@ -134,8 +121,7 @@ fn put_thousandths(buf: &mut [u8], at: usize, n: u64) -> usize
 fn put_one(buf: &mut [u8], at: usize, b: u8) -> usize
     ensures { Put buf.old at (b ∷ []) buf.new result }
 {
-    let one = [b];
-    put(buf, at, &one)
+    put(buf, at, &[b])
 }
 
 fn put_between(buf: &mut [u8], at: usize, least: u8, most: u8) -> usize
@@ -186,7 +172,7 @@ fn put_title(buf: &mut [u8], at: usize, kind: Kind, offset: u64, name: &[u8]) ->
 fn put_name(buf: &mut [u8], at: usize, name: &[u8]) -> usize
     ensures { Put buf.old at (named_by name.now) buf.new result }
 {
-    if name.len() == 0 {
+    if name.is_empty() {
         return put(buf, at, b"");
     }
     let named = put(buf, at, name);

@@ -1,13 +1,11 @@
 -- EXPLAIN 2: the parts of what is told of a frame.
-use Rattle.std.specs.Prelude.{ℕ, ◌-◌, Bool, cond, List, [], ◌∷◌, ◌++◌, eqb, take, drop, get_or}
+use Rattle.std.specs.Prelude.{ℕ, ◌-◌, Bool, cond, List, [], ◌∷◌, ◌++◌, eqb, take, get_or, Option, Some, None}
 use Rattle.letters.specs.Letters.{bytes}
-use Rattle.display.specs.declared.Display.{Display}
-use Rattle.display.specs.declared.Display.TheVariants as display
 use Rattle.reasons.specs.declared.Reason.{Reason}
 use Rattle.trail.specs.declared.Trail.{Trail}
 use Rattle.command.specs.Commands.{parsed_of, first_text, second_text}
 use Rattle.words.specs.Names.{command_word, reply_word, reason_word}
-use Rattle.items.specs.Items.{item}
+use Rattle.items.specs.Items.{labelled}
 use Rattle.items.specs.Asked.{asked_of}
 use Rattle.items.specs.declared.Kind.{Kind}
 use Rattle.items.specs.declared.Kind.TheVariants as kind
@@ -20,7 +18,7 @@ use Rattle.entries.specs.Entries.{item_text, four_text, bytes_text, letters_text
 -- EXPLAIN 2: the bytes outside frames that end at an offset; nothing where there are none
 abbrev pub skipped_text : (html : Bool) → (end count : ℕ) → List ℕ
 skipped_text html end count =
-    cond (eqb count 0) [] (headed html kind.Skipped (end - count) [] ++ item_text html (item label.Skipped (value.Number count)) ++ ended html)
+    cond (eqb count 0) [] (headed html kind.Skipped (end - count) [] ++ item_text html (labelled label.Skipped (value.Number count)) ++ ended html)
 
 -- PROTOCOL 1.2: 01h, the bytes behind it, and the last one
 abbrev pub frame_text : (html : Bool) → (shadow : List ℕ) → (count : ℕ) → (last : List ℕ) → List ℕ
@@ -28,7 +26,7 @@ frame_text html shadow count last = bytes_text html label.Frame (0x01 ∷ []) (t
 
 -- PROTOCOL 1.2: SEQ and CMD behind LEN
 abbrev pub names_text : (html : Bool) → (seq code : ℕ) → List ℕ
-names_text html seq code = item_text html (item label.Seq (value.Byte seq)) ++ item_text html (item label.Cmd (value.Number code))
+names_text html seq code = item_text html (labelled label.Seq (value.Byte seq)) ++ item_text html (labelled label.Cmd (value.Number code))
 
 -- EXPLAIN 2: a whole frame: its offset, its command and what became of it; its bytes, SEQ and CMD
 abbrev pub whole_text : (html : Bool) → Kind → Trail → (shadow : List ℕ) → (byte : ℕ) → List ℕ
@@ -54,6 +52,6 @@ abbrev pub reason_text : (html : Bool) → (number : ℕ) → Reason → List �
 reason_text html number reason = cond (eqb number 0) [] (said_text html label.Reason (bytes " ~") (reason_word reason) [])
 
 -- PROTOCOL 5.17: the text at the front of the display's buffer, where one is shown; it can have no bytes
-abbrev pub shown_text : (html : Bool) → Display → (display : List ℕ) → List ℕ
-shown_text html display.Stays text = []
-shown_text html (display.Shows n) text = letters_text html (label_word label.OnDisplay) (take n text)
+abbrev pub shown_text : (html : Bool) → Option ℕ → (display : List ℕ) → List ℕ
+shown_text html None text = []
+shown_text html (Some n) text = letters_text html (label_word label.OnDisplay) (take n text)

@@ -7,7 +7,6 @@ ghost use Rattle.pages.specs.Pages.{headed};
 ghost use Rattle.words.specs.Names.{command_word};
 ghost use Rattle.passages.specs.Passages.{skipped_text, frame_text, names_text, whole_text, asked_text, reply_text, reason_text, shown_text};
 
-use display::Display;
 use entries::{put_bytes, put_four, put_item, put_said, put_some};
 use items::{Item, Kind, Label, Value};
 use pages::put_heading;
@@ -23,11 +22,11 @@ pub fn put_skipped(buf: &mut [u8], at: usize, html: bool, end: u64, count: u64) 
     if count == 0 {
         return put(buf, at, b"");
     }
-    let begin = basics::less(end, count);
+    let begin = end.saturating_sub(count);
     let told = put_heading(buf, at, html, Kind::Skipped, begin, b"");
     let label = Label::Skipped;
     let value = Value::Number(count);
-    let next = put_item(buf, told, html, Item { label, value });
+    let next = put_item(buf, told, html, Some(Item { label, value }));
     pages::put_end(buf, next, html)
 }
 
@@ -79,16 +78,16 @@ fn put_command(buf: &mut [u8], at: usize, html: bool, kind: Kind, offset: u64, c
 fn put_names(buf: &mut [u8], at: usize, html: bool, seq: u8, code: u8) -> usize
     ensures { Put buf.old at (names_text html seq code) buf.new result }
 {
-    let label = Label::Seq;
-    let value = Value::Byte(seq);
-    let next = put_item(buf, at, html, Item { label, value });
-    let second = Label::Cmd;
-    let number = Value::Number(code as u64);
-    let item = Item {
-        label: second,
-        value: number,
+    let seq = Item {
+        label: Label::Seq,
+        value: Value::Byte(seq),
     };
-    put_item(buf, next, html, item)
+    let code = Item {
+        label: Label::Cmd,
+        value: Value::Number(code as u64),
+    };
+    let next = put_item(buf, at, html, Some(seq));
+    put_item(buf, next, html, Some(code))
 }
 
 // The data behind LEN, SEQ and CMD.
@@ -140,13 +139,17 @@ pub fn put_reason(buf: &mut [u8], at: usize, html: bool, number: u64, reason: Re
 }
 
 // The text on the display, where one is shown; it can have no bytes.
-pub fn put_shown(buf: &mut [u8], at: usize, html: bool, shows: Display, display: &[u8]) -> usize
+pub fn put_shown(
+    buf: &mut [u8],
+    at: usize,
+    html: bool,
+    shows: Option<usize>,
+    display: &[u8],
+) -> usize
     ensures { Put buf.old at (shown_text html shows display.now) buf.new result }
 {
     match shows {
-        Display::Stays => put(buf, at, b""),
-        Display::Shows(n) => {
-            entries::put_text(buf, at, html, Label::OnDisplay, front(display, n))
-        }
+        None => put(buf, at, b""),
+        Some(n) => { entries::put_text(buf, at, html, Label::OnDisplay, front(display, n)) }
     }
 }

@@ -10,6 +10,7 @@ ghost use Rattle.passing.specs.Passing.{PartRead, Answered};
 use keeping::{Next, Source, Stage};
 use opening::{Held, INPUT, OUTPUT};
 use options::Ends;
+use std::fs::File;
 use std::io::{Error, IsTerminal, Read, Result, Seek, SeekFrom, Stderr, Write};
 
 // The next part, in the first bytes; over where there is none, and then a message says why.
@@ -21,7 +22,7 @@ pub fn read_part(held: &Held, ends: Ends, stage: Stage, bytes: &mut [u8]) -> Sta
     let left = options::names_left(ends);
     let number = number_of(ends, stage);
     let got = read(held, number, bytes);
-    let n = count(got, bytes);
+    let n = got.unwrap_or(0);
     let failed = got.is_err();
     let terminal = is_terminal(held, number, got);
     let next = keeping::taken_for(source, failed, terminal, left, n);
@@ -30,71 +31,56 @@ pub fn read_part(held: &Held, ends: Ends, stage: Stage, bytes: &mut [u8]) -> Sta
     keeping::stage_after(next, stage.heard, n, kept)
 }
 
-fn number_of(ends: Ends, stage: Stage) -> i32 {
+fn number_of(ends: Ends, stage: Stage) -> Option<i32> {
     if stage.replays {
-        return ends.old;
+        ends.old
+    } else {
+        Some(ends.input)
     }
-    ends.input
 }
 
 // What is there is read, once.
-fn read(held: &Held, number: i32, bytes: &mut [u8]) -> Result<usize>
+fn read(held: &Held, number: Option<i32>, bytes: &mut [u8]) -> Result<usize>
     ensures { ReadsAtMost result bytes.new }
 {
-    if number == INPUT {
+    if number == Some(INPUT) {
         let mut input = held.input;
         return input.read(bytes);
     }
-    match opening::file_at(held, number) {
-        Ok(mut file) => file.read(bytes),
-        Err(why) => Err(why),
-    }
-}
-
-// How many bytes were read: none where that failed.
-fn count(got: Result<usize>, bytes: &[u8]) -> usize
-    requires { ReadsAtMost got bytes.now }
-    ensures { result ≤ length bytes.now }
-{
-    match got {
-        Ok(n) => n,
-        Err(_) => 0,
-    }
+    let mut file = file_at(held, number)?;
+    file.read(bytes)
 }
 
 // Asked only where no byte came.
-fn is_terminal(held: &Held, number: i32, got: Result<usize>) -> bool {
+fn is_terminal(held: &Held, number: Option<i32>, got: Result<usize>) -> bool {
     let Ok(0) = got else {
         return false;
     };
-    if number == INPUT {
+    if number == Some(INPUT) {
         return held.input.is_terminal();
     }
-    match opening::file_at(held, number) {
-        Ok(file) => file.is_terminal(),
-        Err(_) => false,
+    file_at(held, number).is_ok_and(|file| file.is_terminal())
+}
+
+// The file that has this number, where there is one.
+fn file_at(held: &Held, number: Option<i32>) -> Result<&File> {
+    match number {
+        Some(number) => opening::file_at(held, number),
+        None => Err(Error::other("nothing is open there")),
     }
 }
 
 // A read that failed says why.
 fn told(errors: Stderr, source: Source, got: Result<usize>) {
-    if let Err(why) = got {
-        broken(errors, source, why);
-    }
-}
-
-fn broken(errors: Stderr, source: Source, why: Error) {
-    match source {
-        Source::Recording => {
-            system::fail(&errors, b"error: the recording can't be read", &why);
-        }
-        Source::Input => {
-            system::fail(&errors, b"error: standard input can't be read", &why);
-        }
-        Source::Line => {
-            system::fail(&errors, b"error: the line can't be read", &why);
-        }
-    }
+    let Err(why) = got else {
+        return;
+    };
+    let what: &[u8] = match source {
+        Source::Recording => b"error: the recording can't be read",
+        Source::Input => b"error: standard input can't be read",
+        Source::Line => b"error: the line can't be read",
+    };
+    system::fail(&errors, what, &why);
 }
 
 // What a read is taken for is done: bytes of the line are kept, a long replay says how far it is, a closed line is told. Whether bytes that have to
@@ -102,12 +88,9 @@ fn broken(errors: Stderr, source: Source, why: Error) {
 fn act(held: &Held, ends: Ends, next: Next, heard: u64, bytes: &[u8]) -> bool {
     match next {
         Next::Silent => replayed(held, ends, heard, bytes.len()),
-        Next::Anew => true,
-        Next::Begin => true,
         Next::Answer => keep(held, ends.tape, bytes),
-        Next::Wait => true,
-        Next::End => true,
         Next::Closed => system::write(&held.errors, b"error: the line is closed\n"),
+        Next::Anew | Next::Begin | Next::Wait | Next::End => true,
         Next::Broken => false,
     }
 }
@@ -132,31 +115,22 @@ fn report(held: &Held, ends: Ends, heard: u64) {
     system::write(&held.errors, b" bytes of the recording are heard\n");
 }
 
-// The place of a file's end, -1 where that can't be told.
-fn end_of(held: &Held, number: i32) -> i64 {
-    match sought(held, number) {
-        Ok(end) => i64::try_from(end).unwrap_or(-1),
-        Err(_) => -1,
-    }
-}
-
-fn sought(held: &Held, number: i32) -> Result<u64> {
-    let mut file = opening::file_at(held, number)?;
-    file.seek(SeekFrom::End(0))
+// The place of a file's end, where that can be told.
+fn end_of(held: &Held, number: Option<i32>) -> Option<u64> {
+    let mut file = file_at(held, number).ok()?;
+    file.seek(SeekFrom::End(0)).ok()
 }
 
 // Bytes of the line go into the recording before they are heard.
-fn keep(held: &Held, tape: i32, bytes: &[u8]) -> bool {
-    if tape < 0 {
+fn keep(held: &Held, tape: Option<i32>, bytes: &[u8]) -> bool {
+    let Some(tape) = tape else {
         return true;
-    }
-    match written(held, tape, bytes) {
-        Ok(()) => true,
-        Err(why) => {
-            system::fail(&held.errors, b"error: the recording can't be written", &why);
-            false
-        }
-    }
+    };
+    is_done(
+        held.errors,
+        b"error: the recording can't be written",
+        written(held, tape, bytes),
+    )
 }
 
 // All of the bytes, at once.
@@ -169,6 +143,14 @@ fn written(held: &Held, number: i32, bytes: &[u8]) -> Result<()> {
     file.write_all(bytes)
 }
 
+// Whether it was done, or a message.
+fn is_done(errors: Stderr, what: &[u8], done: Result<()>) -> bool {
+    if let Err(why) = done {
+        system::fail(&errors, what, &why);
+    }
+    done.is_ok()
+}
+
 // What is given back goes out once all that was heard is safe.
 pub fn answer(held: &Held, ends: Ends, stage: Stage, out: &[u8], given: usize) -> bool
     ensures { Answered stage.replays given (length out.now) result }
@@ -176,27 +158,23 @@ pub fn answer(held: &Held, ends: Ends, stage: Stage, out: &[u8], given: usize) -
     if !keeping::goes_out(stage.replays, given) {
         return true;
     }
-    if out.len() < given {
+    let Some(out) = out.get(..given) else {
         return false;
-    }
-    let safe = is_safe(held, ends.tape, stage.heard);
-    if !safe {
-        return false;
-    }
-    write(held, ends, &out[0..given])
+    };
+    is_safe(held, ends.tape, stage.heard) && write(held, ends, out)
 }
 
 // On its device, and with nothing else in it.
-fn is_safe(held: &Held, tape: i32, heard: u64) -> bool {
-    if tape < 0 {
+fn is_safe(held: &Held, tape: Option<i32>, heard: u64) -> bool {
+    if tape.is_none() {
         return true;
     }
-    if let Err(why) = synced(held, tape) {
-        system::fail(
-            &held.errors,
-            b"error: the recording can't be made safe",
-            &why,
-        );
+    let safe = is_done(
+        held.errors,
+        b"error: the recording can't be made safe",
+        synced(held, tape),
+    );
+    if !safe {
         return false;
     }
     let whole = keeping::is_whole(end_of(held, tape), heard);
@@ -209,24 +187,15 @@ fn is_safe(held: &Held, tape: i32, heard: u64) -> bool {
     whole
 }
 
-fn synced(held: &Held, number: i32) -> Result<()> {
-    opening::file_at(held, number)?.sync_all()
+fn synced(held: &Held, number: Option<i32>) -> Result<()> {
+    file_at(held, number)?.sync_all()
 }
 
 fn write(held: &Held, ends: Ends, given: &[u8]) -> bool {
-    match written(held, ends.output, given) {
-        Ok(()) => true,
-        Err(why) => {
-            unwritten(held.errors, ends.online, why);
-            false
-        }
-    }
-}
-
-fn unwritten(errors: Stderr, online: bool, why: Error) {
-    if online {
-        system::fail(&errors, b"error: the line can't be written", &why);
-        return;
-    }
-    system::fail(&errors, b"error: standard output can't be written", &why);
+    let what: &[u8] = if ends.online {
+        b"error: the line can't be written"
+    } else {
+        b"error: standard output can't be written"
+    };
+    is_done(held.errors, what, written(held, ends.output, given))
 }

@@ -55,23 +55,20 @@ pub fn sentence(buf: &mut [u8], at: usize, k: usize, word: &[u8], figures: &[u64
 pub fn plain(buf: &mut [u8], at: usize, k: usize, word: &[u8]) -> usize
     ensures { Put buf.old at (filled (get_or sentences k []) word.now []) buf.new result }
 {
-    let none = [0u64; 1];
-    sentence(buf, at, k, word, &none[..0])
+    sentence(buf, at, k, word, &[])
 }
 
 // A sentence with a text by value.
 pub fn worded(buf: &mut [u8], at: usize, k: usize, words: Words, figures: &[u64]) -> usize
     ensures { Put buf.old at (filled (get_or sentences k []) (take words.count words.bytes) figures.now) buf.new result }
 {
-    let bytes = words.bytes;
-    sentence(buf, at, k, front(&bytes, words.count), figures)
+    sentence(buf, at, k, front(&words.bytes, words.count), figures)
 }
 
 // SCRIPTS 6: what is wrong with a line of a script, and 8: what stops a script on a real line.
 pub fn wrong(buf: &mut [u8], at: usize, line: u64, why: u8) -> usize
     ensures { Put buf.old at (filled (get_or wrongs why []) [] (line ∷ [])) buf.new result }
 {
-    let figures = [line];
     let row = row_of(
         b"error: line #: it is of no use|\n\
         error: line #: neither a command, which is a number 1 to 255 and its data, nor `try` nor `answer`|\n\
@@ -83,5 +80,5 @@ pub fn wrong(buf: &mut [u8], at: usize, line: u64, why: u8) -> usize
         error: line #: UNFINISHED, and what follows is not sent; -k goes on|\n",
         why as usize,
     );
-    fill(buf, at, row, b"", &figures)
+    fill(buf, at, row, b"", &[line])
 }

@@ -23,45 +23,38 @@ const OUT_ROOM: usize = 3555328;
 
 fn main(rt: HostRuntime) {
     let mut held = opening::none_held(rt.stdin(), rt.stdout(), rt.stderr());
-    let ends = opening::open_ends(&rt, &mut held);
-    if ends.ready {
+    if let Some(ends) = opening::open_ends(&rt, &mut held) {
         run(&rt, &mut held, ends);
     }
 }
 
 // Part by part: read, and kept where it came from the line; heard; answered. Behind a recording that another follows the device is switched on
 // anew.
-fn run<R: Env + Files<File = File>>(rt: &R, held: &mut Held, first: Ends) {
-    let mut ends = first;
+fn run<R: Env + Files<File = File>>(rt: &R, held: &mut Held, mut ends: Ends) {
     let mut frame = [0u8; FRAME_ROOM];
     let mut last = [0u8; ANSWER_ROOM];
     let mut out = out_room();
     let mut bytes = part_room();
     let mut kept = kept::fresh_kept();
-    let mut stage = keeping::first_stage(ends.replays);
-    let mut turns = 9223372036854775807u64;
-    while turns > 0 {
+    let mut stage = keeping::first_stage(ends.last.is_some());
+    for _ in 0..i64::MAX {
         stage = passing::read_part(&*held, ends, stage, &mut bytes);
         if stage.over {
             return;
         }
         if stage.anew {
-            let switched = kept::switch_on(kept);
-            kept = switched;
-            let following = opening::next_recording(rt, held, ends);
-            ends = following;
-            if !ends.ready {
+            kept = kept::switch_on(kept);
+            let Some(next) = opening::next_recording(rt, held, ends) else {
                 return;
-            }
+            };
+            ends = next;
         }
         let n = stage.count;
         let part = hear(kept, &mut frame, &mut last, &bytes[0..n], &mut out);
-        let next = part.kept;
-        kept = next;
+        kept = part.kept;
         if !passing::answer(&*held, ends, stage, &out, part.given) {
             return;
         }
-        turns -= 1;
     }
 }
 

@@ -11,10 +11,9 @@ use Rattle.wire.specs.Frame.{command_of, sendable}
 use Rattle.wire.specs.declared.Way.TheVariants.{ToDevice}
 use Rattle.reader.specs.Reading.{Place, Event, nothing, broken_frame, heard, read}
 use Rattle.sheet.specs.declared.Line.{Line}
-use Rattle.sheet.specs.declared.Match.{Match}
+use Rattle.std.specs.Prelude.{Option, Ok, Err}
 use Rattle.books.specs.declared.Books.{Books}
-use Rattle.kinds.specs.declared.Parsed.{Parsed}
-use Rattle.kinds.specs.declared.Parsed.TheVariants.{Read, Syntax, Unknown}
+use Rattle.kinds.specs.Fields.{Parsed}
 use Rattle.command.specs.Commands.{parsed_of}
 use Rattle.history.specs.Reached.{Reached}
 use Rattle.history.proofs.Reaching.{fresh_reached, reached_stays}
@@ -73,11 +72,10 @@ pub by_the_till_end : (s : Bench) → till-rows.tries_of s.till.pending ≤ 5 �
 by_the_till_end s few buffer h = at_till_lem (till-rows.has_its_row s.till buffer h few)
 
 -- which every event leaves: the books are such as a fresh device comes to
-pub deed_stays : (b : Books) (m : Match) (let-pass : Bool) (p : Parsed) → Reached b → Reached (deed_for b m let-pass p).books
-deed_stays b m true (Read c) r = reached_stays b m c r
-deed_stays b m false (Read c) r = r
-deed_stays b m let-pass Syntax r = r
-deed_stays b m let-pass Unknown r = r
+pub deed_stays : (b : Books) (m : Option ℕ) (let-pass : Bool) (p : Parsed) → Reached b → Reached (deed_for b m let-pass p).books
+deed_stays b m true (Ok c) r = reached_stays b m c r
+deed_stays b m false (Ok c) r = r
+deed_stays b m let-pass (Err why) r = r
 
 pub event_stays : (s : line.State Store) (next : Place) (e : Event) → Reached s.store.books → Reached (line.on_event carry s next e).state.store.books
 event_stays s next nothing r = r

@@ -13,14 +13,14 @@ use Rattle.reader.specs.Reading.{Place, outside, nothing, heard, starts_anew, re
 use Rattle.reader.proofs.RoundTrip.{read_what_was_built, parts}
 use Rattle.reader.proofs.History.{built_is_all_that_is_read}
 use Rattle.kinds.specs.declared.Command.TheVariants.{Sell, Drawer}
-use Rattle.kinds.specs.declared.Parsed.{Parsed}
-use Rattle.kinds.specs.declared.Parsed.TheVariants.{Read, Syntax, Unknown}
+use Rattle.kinds.specs.Fields.{Parsed}
+use Rattle.std.specs.Prelude.{Ok, Err, Option}
+use Rattle.kinds.specs.declared.Unread.TheVariants.{Syntax, Unknown}
 use Rattle.kinds.specs.declared.Sale.{Sale}
 use Rattle.kinds.specs.declared.Service.{Service}
 use Rattle.command.specs.Commands.{parsed_of}
 use Rattle.sheet.specs.Searches.{match_of}
 use Rattle.sheet.specs.declared.Line.{Line}
-use Rattle.sheet.specs.declared.Match.{Match}
 use Rattle.books.specs.Groups.{at}
 use Rattle.rules.specs.declared.views.View.TheVariants.{Sells}
 use Rattle.store.specs.Commands.{deed_on}
@@ -115,7 +115,7 @@ module _ (sheet : List Line) (lines : 512 ≤ length sheet) where
 
   -- and it can be seen: the Cash field of every answer to a 70 that is done, read back as a number
   pub cash_is_seen : (arrived : List Moment) (a : Moment) → let t = turn_by (device_after (fresh_device sheet) arrived) a in
-      (m : Message) (s : Service) → t.carried ≡ m ∷ [] → parsed_of m.code m.content ≡ Read (Drawer s) → t.number ≡ 0
+      (m : Message) (s : Service) → t.carried ≡ m ∷ [] → parsed_of m.code m.content ≡ Ok (Drawer s) → t.number ≡ 0
       → cash_in (data_in t.gives) ≡ put_in (entries_of sheet (arrived ++ a ∷ [])) - taken_out (entries_of sheet (arrived ++ a ∷ []))
   cash_is_seen arrived a m s one is70 zero =
       cash_in_answer (device_after (fresh_device sheet) arrived) (any_history_reached sheet lines arrived) m s is70 a one zero
@@ -160,15 +160,15 @@ module _ (sheet : List Line) (lines : 512 ≤ length sheet) where
   pub every_field_fits : (arrived : List Moment) → InDigits (books_after sheet arrived)
   every_field_fits arrived = digits_fit (books_after sheet arrived) (any_history_reached sheet lines arrived)
 
-  pub rest_and_change_fit_too : (arrived : List Moment) (code : ℕ) (content : List ℕ) (m : Match) (let-pass : Bool)
+  pub rest_and_change_fit_too : (arrived : List Moment) (code : ℕ) (content : List ℕ) (m : Option ℕ) (let-pass : Bool)
       → left_of (deed_for (books_after sheet arrived) m let-pass (parsed_of code content)).shown < 10 ^ 10
   rest_and_change_fit_too arrived code content m let-pass = go let-pass (parsed_of code content) (parsed_right code content)
     where
       go : (let-pass : Bool) (x : Parsed) → Right x → left_of (deed_for (books_after sheet arrived) m let-pass x).shown < 10 ^ 10
-      go true (Read c) (is_read_lem r) = rest_and_change_fit (books_after sheet arrived) m c (any_history_reached sheet lines arrived) r
-      go false (Read c) (is_read_lem r) = omega arith
-      go let-pass Syntax syntax = omega arith
-      go let-pass Unknown no_kind = omega arith
+      go true (Ok c) (is_read_lem r) = rest_and_change_fit (books_after sheet arrived) m c (any_history_reached sheet lines arrived) r
+      go false (Ok c) (is_read_lem r) = omega arith
+      go let-pass (Err Syntax) syntax = omega arith
+      go let-pass (Err Unknown) no_kind = omega arith
 
 -- and the books behind all calls of the running code, in whatever parts and with whatever buffers it hears the bytes
 pub and_those_of_the_calls : (f g : Machines) → Fresh f → (bytes gives : List ℕ) (texts : List (List ℕ)) → HeardThrough f bytes gives texts g

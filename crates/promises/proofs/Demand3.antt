@@ -3,6 +3,7 @@
 -- whole; no byte is lost or added. Then the device carries out that very list, each command once and in order, by demand 2's rules. So two
 -- different lists never arrive as the same bytes." Request 2026-11: "a try may also arrive as any beginning of its frame, from nothing to all but
 -- the last byte, with the rest lost." (`line/specs/Delivery.antt` says this of a list with its tries: `delivery`, `all_arriving`; `tries/specs/Tries.antt` of one try.)
+use Rattle.std.proofs.lemmas.Bool.{and_parts, and_from}
 use mathlib.Core.Path.{◌≡◌, refl, sym, ap, ◌∙◌, subst}
 use mathlib.Core.Bool.{Bool, true, false, cond, not, ◌&&◌, false≢true}
 use mathlib.Core.Logic.{◌⊎◌, inl, inr}
@@ -14,7 +15,6 @@ use lib.Seq.{sets}
 use borrow.Author.Tests.{ne_eqb}
 use Rattle.wire.specs.Frame.{Message, frame, sendable}
 use Rattle.wire.specs.declared.Way.TheVariants.{ToDevice}
-use Rattle.basics.proofs.Tests.{both, and_true}
 use Rattle.reader.specs.Reading.{Event, outside, broken_frame}
 use Rattle.display.specs.Display.{shown_by}
 use Rattle.sheet.specs.declared.Line.{Line}
@@ -120,8 +120,8 @@ pub the_code_tells_the_list : (sheet : List Line) (cs : List Sent) → delivery 
     → ((told_in out orders (recording sheet (all_arriving cs))).recorded.books ≡ (carry_all carry (fresh_store sheet) (commands cs)).books)
     × ((told_in out orders (recording sheet (all_arriving cs))).orders ≡ sets orders 0 (listing (commands cs)))
 the_code_tells_the_list sheet cs e out orders =
-    let both = carries_out_the_list sheet cs e in
-    (ap (λ (z : Store). z.books) both.1, ap (λ z. sets orders 0 (listing z)) both.0)
+    let and_parts = carries_out_the_list sheet cs e in
+    (ap (λ (z : Store). z.books) and_parts.1, ap (λ z. sets orders 0 (listing z)) and_parts.0)
 
 -- at most once, without "at least one whole": whatever tries arrive, and in whatever of the ways, what is carried out is what is heard, told from the tries
 -- alone, repeats left out
@@ -147,9 +147,9 @@ same_frames zero f [] e = (refl, refl)
 same_frames zero f (a ∷ ways) e = absurd (false≢true e)
 same_frames (suc n) f [] e = absurd (false≢true e)
 same_frames (suc n) f (a ∷ ways) e =
-    let two = both (may_arrive f a) (each_arrives (replicate n f) ways) e in
+    let two = and_parts (may_arrive f a) (each_arrives (replicate n f) ways) e in
     let rest = same_frames n f ways two.1 in
-    (and_true (may_arrive f a) (all (may_arrive f) ways) two.0 rest.0, ap (λ z. arriving f a ++ z) rest.1)
+    (and_from (may_arrive f a) (all (may_arrive f) ways) two.0 rest.0, ap (λ z. arriving f a ++ z) rest.1)
 
 -- neighbours differ by the till end's own SEQ
 seq_differs : (place : ℕ) (m : Message) → m.seq ≡ seq_of place → (hs : List Handed) (rest : List (List Arrival)) → AllInPlace (place + 1) hs
@@ -174,23 +174,23 @@ crosses (h ∷ hs) place p [] e = absurd (false≢true e)
 crosses (h ∷ hs) place p (ways ∷ rest) e =
     let m = h.command in
     let f = frame ToDevice m in
-    let two = both (each_arrives h.frames ways) (all_arrive hs rest) e in
+    let two = and_parts (each_arrives h.frames ways) (all_arrive hs rest) e in
     let own = p.0.tried in
     let n = length h.frames in
     let tries = same_frames n f ways (sym (ap (λ z. each_arrives z ways) own.same) ∙ two.0) in
     let others = crosses hs (place + 1) p.1 rest two.1 in
-    let may = and_true (sendable ToDevice m) (all (may_arrive f) ways) own.can tries.0 in
+    let may = and_from (sendable ToDevice m) (all (may_arrive f) ways) own.can tries.0 in
     let cs = over_the_line hs rest in
     record {
-      may_come = and_true (sendable ToDevice m && all (may_arrive f) ways) (all_may_come cs) may others.may_come;
+      may_come = and_from (sendable ToDevice m && all (may_arrive f) ways) (all_may_come cs) may others.may_come;
       same_bytes = ap (λ z. z ++ bytes_arriving hs rest) (ap (λ z. frames_arriving z ways) own.same ∙ tries.1)
           ∙ ap (λ z. tries_arriving f ways ++ z) others.same_bytes;
       same_commands = ap (λ z. m ∷ z) others.same_commands;
       is_delivery = λ w.
-          let whole = both (any is_whole ways) (each_one_whole rest) w in
-          and_true (tried (record { command = m; tries = ways }) && differs_from m cs) (delivery cs)
-          (and_true (tried (record { command = m; tries = ways })) (differs_from m cs)
-          (and_true (sendable ToDevice m && all (may_arrive f) ways) (any is_whole ways) may whole.0)
+          let whole = and_parts (any is_whole ways) (each_one_whole rest) w in
+          and_from (tried (record { command = m; tries = ways }) && differs_from m cs) (delivery cs)
+          (and_from (tried (record { command = m; tries = ways })) (differs_from m cs)
+          (and_from (sendable ToDevice m && all (may_arrive f) ways) (any is_whole ways) may whole.0)
           (seq_differs place m p.0.seq hs rest p.1))
           (others.is_delivery whole.1);
     }

@@ -9,8 +9,9 @@ use Rattle.wire.specs.Frame.{Message}
 use Rattle.wire.specs.declared.Way.TheVariants.{ToDevice}
 use Rattle.reader.specs.Reading.{Place, Event, nothing, broken_frame, heard, read}
 use Rattle.kinds.specs.declared.Command as kinds
-use Rattle.kinds.specs.declared.Parsed.{Parsed}
-use Rattle.kinds.specs.declared.Parsed.TheVariants.{Read, Syntax, Unknown}
+use Rattle.kinds.specs.Fields.{Parsed}
+use Rattle.std.specs.Prelude.{Ok, Err}
+use Rattle.kinds.specs.declared.Unread.TheVariants.{Syntax, Unknown}
 use Rattle.display.specs.Display.{shown_by}
 use Rattle.kinds.specs.declared.Command.TheVariants.{OpenText, CloseText, PrintText, Open, Sell, Subtotal, Pay, Close, Cancel, Sums, Closing, Drawer, Status, Rates, ShowText, ChangePassword, ChangeName}
 use Rattle.command.specs.Commands.{parsed_of}
@@ -38,18 +39,17 @@ by_these s c for3 for4 =
     cond for3 (refused_with 3 s.books) (cond for4 (refused_with 4 s.books) (done_with r.after r.shows r.note))
 
 abbrev pub table_deed : Store → Parsed → Deed
-table_deed s (Read c) = by_these s c (three s c) (four s c)
-table_deed s Syntax = refused_with 1 s.books
-table_deed s Unknown = refused_with 2 s.books
+table_deed s (Ok c) = by_these s c (three s c) (four s c)
+table_deed s (Err Syntax) = refused_with 1 s.books
+table_deed s (Err Unknown) = refused_with 2 s.books
 
 -- and what it makes of the guard
 abbrev guard_these : Store → kinds.Command → (content : List ℕ) → Bool → Bool → Guard
 guard_these s c content for3 for4 = cond for3 (counted s c).guard (cond for4 (counted s c).guard (leaves_of s c content).guard)
 
 abbrev pub table_guard : Store → Parsed → (content : List ℕ) → Guard
-table_guard s (Read c) content = guard_these s c content (three s c) (four s c)
-table_guard s Syntax content = s.guard
-table_guard s Unknown content = s.guard
+table_guard s (Ok c) content = guard_these s c content (three s c) (four s c)
+table_guard s (Err why) content = s.guard
 
 abbrev pub table_place : Store → Parsed → ℕ
 table_place s p = place_of s.sheet (search_in s.books p)
@@ -61,32 +61,30 @@ table_carry s m =
 
 -- what a command shows, by how it is read: nothing where it is refused
 abbrev is_read : Parsed → Bool
-is_read (Read c) = true
-is_read Syntax = false
-is_read Unknown = false
+is_read (Ok c) = true
+is_read (Err why) = false
 
-not_syntax : Syntax ≡ Read ShowText → ⊥
+not_syntax : Err Syntax ≡ Ok ShowText → ⊥
 not_syntax e = false≢true (ap is_read e)
 
-not_unknown : Unknown ≡ Read ShowText → ⊥
+not_unknown : Err Unknown ≡ Ok ShowText → ⊥
 not_unknown e = false≢true (ap is_read e)
 
 abbrev command_in : Parsed → kinds.Command
-command_in (Read c) = c
-command_in Syntax = ShowText
-command_in Unknown = ShowText
+command_in (Ok c) = c
+command_in (Err why) = ShowText
 
-none_shown : (m : Message) (p : Parsed) → parsed_of m.code m.content ≡ p → (p ≡ Read ShowText → ⊥) → texts_of (m ∷ []) ≡ []
+none_shown : (m : Message) (p : Parsed) → parsed_of m.code m.content ≡ p → (p ≡ Ok ShowText → ⊥) → texts_of (m ∷ []) ≡ []
 none_shown m p e other = append-nil (shown_by m.code m.content) ∙ go (shown_or_not m.code m.content)
   where
-    go : (shown_by m.code m.content ≡ []) ⊎ (parsed_of m.code m.content ≡ Read ShowText) → shown_by m.code m.content ≡ []
+    go : (shown_by m.code m.content ≡ []) ⊎ (parsed_of m.code m.content ≡ Ok ShowText) → shown_by m.code m.content ≡ []
     go (inl f) = f
     go (inr f) = absurd (other (sym e ∙ f))
 
-not_three : (s : Store) (c : kinds.Command) → three s c ≡ true → Read c ≡ Read ShowText → ⊥
+not_three : (s : Store) (c : kinds.Command) → three s c ≡ true → ◌≡◌ {A = Parsed} (Ok c) (Ok ShowText) → ⊥
 not_three s c e f = false≢true (sym (ap (λ p. three s (command_in p)) f) ∙ e)
 
-not_four : (s : Store) (c : kinds.Command) → four s c ≡ true → Read c ≡ Read ShowText → ⊥
+not_four : (s : Store) (c : kinds.Command) → four s c ≡ true → ◌≡◌ {A = Parsed} (Ok c) (Ok ShowText) → ⊥
 not_four s c e f = false≢true (sym (ap (λ p. four s (command_in p)) f) ∙ e)
 
 module _ (s : State Store) where
@@ -105,7 +103,7 @@ module _ (s : State Store) where
   order next m p g d = ordered next m (carried_as s.store m.seq m.code (table_place s.store p) g d)
 
   abbrev reasoned : Place → Message → kinds.Command → Bool → Bool → Turn Store
-  reasoned next m c for3 for4 = order next m (Read c) (guard_these s.store c m.content for3 for4) (by_these s.store c for3 for4)
+  reasoned next m c for3 for4 = order next m (Ok c) (guard_these s.store c m.content for3 for4) (by_these s.store c for3 for4)
 
   -- data of no form, and an unknown command
   abbrev refused : Place → Message → Parsed → Turn Store
@@ -144,7 +142,7 @@ module _ (s : State Store) where
     commanded : (m : Message) (c : kinds.Command) → NewCommand s lent byte m c → (for3 for4 : Bool) → three s.store c ≡ for3 → four s.store c ≡ for4
         → at_length (enough lent) ≡ of_device lent (reasoned next m c for3 for4)
     commanded m c n for3 for4 e3 e4 =
-        framed m n.frame (Read c) n.kind
+        framed m n.frame (Ok c) n.kind
         ∙ ap (λ z. of_device lent (reasoned next m c z (four s.store c))) e3
         ∙ ap (λ z. of_device lent (reasoned next m c for3 z)) e4
 
@@ -152,12 +150,12 @@ module _ (s : State Store) where
     only_row r (row_0_taken room e) = sym (long room nothing e)
     only_row r (row_0_done m c n e3 e4) =
         sym (commanded m c n false false e3 e4 ∙ ap (showing (reasoned next m c false false)) (append-nil (shown_by m.code m.content)))
-    only_row r (row_1 m n e) = sym (framed m n Syntax e ∙ ap (showing (refused next m Syntax)) (none_shown m Syntax e not_syntax))
-    only_row r (row_2 m n e) = sym (framed m n Unknown e ∙ ap (showing (refused next m Unknown)) (none_shown m Unknown e not_unknown))
+    only_row r (row_1 m n e) = sym (framed m n (Err Syntax) e ∙ ap (showing (refused next m (Err Syntax))) (none_shown m (Err Syntax) e not_syntax))
+    only_row r (row_2 m n e) = sym (framed m n (Err Unknown) e ∙ ap (showing (refused next m (Err Unknown))) (none_shown m (Err Unknown) e not_unknown))
     only_row r (row_3 m c n e3) =
-        sym (commanded m c n true (four s.store c) e3 refl ∙ ap (showing (reasoned next m c true (four s.store c))) (none_shown m (Read c) n.kind (not_three s.store c e3)))
+        sym (commanded m c n true (four s.store c) e3 refl ∙ ap (showing (reasoned next m c true (four s.store c))) (none_shown m (Ok c) n.kind (not_three s.store c e3)))
     only_row r (row_4 m c n e3 e4) =
-        sym (commanded m c n false true e3 e4 ∙ ap (showing (reasoned next m c false true)) (none_shown m (Read c) n.kind (not_four s.store c e4)))
+        sym (commanded m c n false true e3 e4 ∙ ap (showing (reasoned next m c false true)) (none_shown m (Ok c) n.kind (not_four s.store c e4)))
     only_row r (row_5 room e) = sym (long room broken_frame e)
     only_row r (row_6 m room e f) = sym (long room (heard m) e ∙ ap (at_repeat m) f)
     only_row r (row_7 short) = sym (ap at_length short)
@@ -166,19 +164,19 @@ module _ (s : State Store) where
     by-reasons : (m : Message) (c : kinds.Command) → NewCommand s lent byte m c → (for3 for4 : Bool) → three s.store c ≡ for3 → four s.store c ≡ for4
         → ByDevice s lent byte (of_device lent (reasoned next m c for3 for4))
     by-reasons m c n true for4 e3 e4 =
-        subst (λ z. ByDevice s lent byte (showing (reasoned next m c true for4) z)) (sym (none_shown m (Read c) n.kind (not_three s.store c e3))) (row_3 m c n e3)
+        subst (λ z. ByDevice s lent byte (showing (reasoned next m c true for4) z)) (sym (none_shown m (Ok c) n.kind (not_three s.store c e3))) (row_3 m c n e3)
     by-reasons m c n false true e3 e4 =
-        subst (λ z. ByDevice s lent byte (showing (reasoned next m c false true) z)) (sym (none_shown m (Read c) n.kind (not_four s.store c e4))) (row_4 m c n e3 e4)
+        subst (λ z. ByDevice s lent byte (showing (reasoned next m c false true) z)) (sym (none_shown m (Ok c) n.kind (not_four s.store c e4))) (row_4 m c n e3 e4)
     by-reasons m c n false false e3 e4 =
         subst (λ z. ByDevice s lent byte (showing (reasoned next m c false false) z)) (sym (append-nil (shown_by m.code m.content))) (row_0_done m c n e3 e4)
 
     by_kind : (m : Message) → NewFrame s lent byte m → (p : Parsed) → parsed_of m.code m.content ≡ p
         → ByDevice s lent byte (of_device lent (refused next m p))
-    by_kind m n Syntax e =
-        subst (λ z. ByDevice s lent byte (showing (refused next m Syntax) z)) (sym (none_shown m Syntax e not_syntax)) (row_1 m n e)
-    by_kind m n Unknown e =
-        subst (λ z. ByDevice s lent byte (showing (refused next m Unknown) z)) (sym (none_shown m Unknown e not_unknown)) (row_2 m n e)
-    by_kind m n (Read c) e = by-reasons m c (record { frame = n; kind = e }) (three s.store c) (four s.store c) refl refl
+    by_kind m n (Err Syntax) e =
+        subst (λ z. ByDevice s lent byte (showing (refused next m (Err Syntax)) z)) (sym (none_shown m (Err Syntax) e not_syntax)) (row_1 m n e)
+    by_kind m n (Err Unknown) e =
+        subst (λ z. ByDevice s lent byte (showing (refused next m (Err Unknown)) z)) (sym (none_shown m (Err Unknown) e not_unknown)) (row_2 m n e)
+    by_kind m n (Ok c) e = by-reasons m c (record { frame = n; kind = e }) (three s.store c) (four s.store c) refl refl
 
     by-event : enough lent ≡ true → (e : Event) → (reads s byte).event ≡ e → ByDevice s lent byte (of_device lent (on_event table_carry s next e))
     by-event room nothing e = row_0_taken room e
@@ -204,9 +202,9 @@ by_passing s c one false = refl
 
 carried_by_lem : (s : Store) (p : Parsed) (content : List ℕ) → Right p
     → deed_for s.books (match_of s.sheet (search_in s.books p)) (judged_by s.guard p content).passes p ≡ table_deed s p
-carried_by_lem s Syntax content syntax = refl
-carried_by_lem s Unknown content no_kind = refl
-carried_by_lem s (Read c) content (is_read_lem r) = by_passing s c (r.one s.books (match_for s (view_of c))) (passes (verdict s c))
+carried_by_lem s (Err Syntax) content syntax = refl
+carried_by_lem s (Err Unknown) content no_kind = refl
+carried_by_lem s (Ok c) content (is_read_lem r) = by_passing s c (r.one s.books (match_for s (view_of c))) (passes (verdict s c))
 
 -- 101 and 102 have no reason but the guard's: whatever else is refused changes neither passwords nor names
 no_reason_changes : (s : Store) (c : kinds.Command) (content : List ℕ) → (rule_for s c).three || four s c ≡ true → changed_by s.guard (trial_of c) content ≡ s.guard
@@ -246,9 +244,8 @@ guarded_by s c content v for3 for4 e3 e4 = go (passes v) for3 for4 e3 e4
     go true false false e3 e4 = refl
 
 guarded : (s : Store) (p : Parsed) (content : List ℕ) → (judged_by s.guard p content).guard ≡ table_guard s p content
-guarded s (Read c) content = guarded_by s c content (verdict s c) (rule_for s c).three (four s c) refl refl
-guarded s Syntax content = refl
-guarded s Unknown content = refl
+guarded s (Ok c) content = guarded_by s c content (verdict s c) (rule_for s c).three (four s c) refl refl
+guarded s (Err why) content = refl
 
 same_carry : (s : Store) (m : Message) → carry s m ≡ table_carry s m
 same_carry s m =

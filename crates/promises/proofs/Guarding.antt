@@ -5,8 +5,8 @@ use mathlib.Core.List.{List, [], ◌∷◌, ◌++◌}
 use Prim.Native.Nat.{ℕ}
 use Rattle.wire.specs.Frame.{Message}
 use Rattle.kinds.specs.declared.Command.TheVariants.{ChangePassword, ChangeName}
-use Rattle.kinds.specs.declared.Parsed.{Parsed}
-use Rattle.kinds.specs.declared.Parsed.TheVariants.{Read}
+use Rattle.kinds.specs.Fields.{Parsed}
+use Rattle.std.specs.Prelude.{Ok}
 use Rattle.kinds.specs.declared.Password.{Password}
 use Rattle.command.specs.Commands.{parsed_of}
 use Rattle.sheet.specs.declared.Line.{Line}
@@ -113,10 +113,10 @@ by_both b locked right = ap number (passes_as locked right) ∙ either (not lock
     either true = refl
     either false = refl
 
-pub a_101_is_done_or_3 : (s : Store) (m : Message) (op : ℕ) (old new : Password) → parsed_of m.code m.content ≡ Read (ChangePassword op old new)
+pub a_101_is_done_or_3 : (s : Store) (m : Message) (op : ℕ) (old new : Password) → parsed_of m.code m.content ≡ Ok (ChangePassword op old new)
     → (carry s m).number ≡ cond (passes_by s.guard op old) 0 3
 a_101_is_done_or_3 s m op old new e = rw e (by_both s.books (is_locked s.guard) (is_right s.guard op old))
 
-pub a_102_is_done_or_3 : (s : Store) (m : Message) (op : ℕ) (password : Password) → parsed_of m.code m.content ≡ Read (ChangeName op password)
+pub a_102_is_done_or_3 : (s : Store) (m : Message) (op : ℕ) (password : Password) → parsed_of m.code m.content ≡ Ok (ChangeName op password)
     → (carry s m).number ≡ cond (passes_by s.guard op password) 0 3
 a_102_is_done_or_3 s m op password e = rw e (by_both s.books (is_locked s.guard) (is_right s.guard op password))

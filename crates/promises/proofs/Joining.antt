@@ -13,8 +13,8 @@ use Rattle.wire.specs.declared.Way.TheVariants as way
 use Rattle.reader.specs.Reading.{Place, Event, nothing, broken_frame, heard, read}
 use Rattle.kinds.specs.declared.Command.{Command}
 use Rattle.kinds.specs.declared.Command.TheVariants.{Drawer}
-use Rattle.kinds.specs.declared.Parsed.{Parsed}
-use Rattle.kinds.specs.declared.Parsed.TheVariants.{Read}
+use Rattle.kinds.specs.Fields.{Parsed}
+use Rattle.std.specs.Prelude.{Ok}
 use Rattle.kinds.specs.declared.Service.{Service}
 use Rattle.command.specs.Commands.{parsed_of}
 use Rattle.sheet.specs.Searches.{place_of, match_of}
@@ -131,14 +131,14 @@ cash_shown s day b e r =
     ∙ ap (number 0) (take_at (digits 12 b.drawer.cash) (comma_each (digits 12 b.drawer.put ∷ digits 12 b.drawer.taken ∷ [])) 12 (length_digits 12 b.drawer.cash))
     ∙ (field_shows 12 b.drawer.cash).0 (digits_fit b r).cash
 
-module _ (s : State Store) (r : Reached s.store.books) (m : Message) (service : Service) (is70 : parsed_of m.code m.content ≡ Read (Drawer service)) where
+module _ (s : State Store) (r : Reached s.store.books) (m : Message) (service : Service) (is70 : parsed_of m.code m.content ≡ Ok (Drawer service)) where
   abbrev Shows : Turn Store → Type 0
   Shows t = t.carried ≡ m ∷ [] → t.number ≡ 0 → cash_in (data_in t.gives) ≡ t.state.store.books.drawer.cash
 
-  shows : (next : Place) (n : Message) (x : Parsed) → x ≡ Read (Drawer service) → (order_as s next n x).number ≡ 0 → cash_in (data_in (answer_as s next n x)) ≡ (deed_as s next n x).books.drawer.cash
+  shows : (next : Place) (n : Message) (x : Parsed) → x ≡ Ok (Drawer service) → (order_as s next n x).number ≡ 0 → cash_in (data_in (answer_as s next n x)) ≡ (deed_as s next n x).books.drawer.cash
   shows next n x e z =
       let d = deed_as s next n x in
-      let none = match_of s.store.sheet (search_in s.store.books (Read (Drawer service))) in
+      let none = match_of s.store.sheet (search_in s.store.books (Ok (Drawer service))) in
       let drawer : d.shown ≡ shown.InDrawer = ap (λ y. (deed_as s next n y).shown) e ∙ seventy_shows_the_drawer s.store.books none service (sym (ap (λ y. (deed_as s next n y).number) e) ∙ z) in
       ap cash_in (data_read n.seq n.code (content_of d.shown s.store.books.day d.books) (status_of d.number d.books) refl)
       ∙ cash_shown d.shown s.store.books.day d.books drawer (deed_stays s.store.books (match_of s.store.sheet (search_in s.store.books x)) (judged_by s.store.guard x n.content).passes x r)
@@ -148,4 +148,4 @@ module _ (s : State Store) (r : Reached s.store.books) (m : Message) (service : 
       every_turn Shows s (λ t none same one. let z : ◌≡◌ {A = ℕ} 0 1 = cc in absurd (omega arith)) (λ one. let z : ◌≡◌ {A = ℕ} 0 1 = cc in absurd (omega arith))
       (λ next n one z.
       let same : m ≡ n = cc in
-      shows next n (parsed_of n.code n.content) (subst (λ (y : Message). parsed_of y.code y.content ≡ Read (Drawer service)) same is70) z)
+      shows next n (parsed_of n.code n.content) (subst (λ (y : Message). parsed_of y.code y.content ≡ Ok (Drawer service)) same is70) z)

@@ -8,8 +8,9 @@ use Rattle.wire.specs.Frame.{Message, frame}
 use Rattle.wire.specs.declared.Way.TheVariants as way
 use Rattle.reader.specs.Reading.{Place}
 use Rattle.kinds.specs.declared.Command.{Command}
-use Rattle.kinds.specs.declared.Parsed.{Parsed}
-use Rattle.kinds.specs.declared.Parsed.TheVariants.{Read, Syntax, Unknown}
+use Rattle.kinds.specs.Fields.{Parsed}
+use Rattle.std.specs.Prelude.{Ok, Err}
+use Rattle.kinds.specs.declared.Unread.TheVariants.{Syntax, Unknown}
 use Rattle.command.specs.Commands.{parsed_of}
 use Rattle.sheet.specs.declared.Line.{Line}
 use Rattle.deeds.specs.Deeds.{refused_with}
@@ -44,10 +45,10 @@ module _ (es : List Entry) (s : State Store) (h : LeadsTo es s.store) where
       subst (λ e. LeadsTo (e ∷ es) s.store) (sym (told_as_done s.store.books m.seq m.code c (refused_with 3 s.store.books))) (barred c h)
 
   read-leads : (place : Place) (m : Message) (x : Parsed) → Right x → LeadsTo (with_read (order_as s place m x) x es) (store_as s place m x)
-  read-leads place m (Read c) (is_read_lem k) =
+  read-leads place m (Ok c) (is_read_lem k) =
       guarded (judged_of s.store.guard (trial_of c) m.content).guard (by_passing m c k (judged_of s.store.guard (trial_of c) m.content).passes)
-  read-leads place m Syntax syntax = guarded s.store.guard h
-  read-leads place m Unknown no_kind = guarded s.store.guard h
+  read-leads place m (Err Syntax) syntax = guarded s.store.guard h
+  read-leads place m (Err Unknown) no_kind = guarded s.store.guard h
 
   turn-leads : (a : Moment) → Leads (turn_by s a)
   turn-leads =

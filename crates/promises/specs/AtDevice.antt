@@ -1,5 +1,5 @@
 -- Demand 1 at the device. The table of PROTOCOL 2.1, row by row: what each row means, what is given back, what stays, and every byte and record that is lent.
-use Rattle.std.specs.Prelude.{ℕ, ◌≡◌, Bool, true, false, not, ◌||◌, List, [], ◌∷◌, length}
+use Rattle.std.specs.Prelude.{ℕ, ◌≡◌, Bool, true, false, not, ◌||◌, List, [], ◌∷◌, length, Ok, Err}
 use Rattle.std.proofs.lemmas.List.Edits.{sets}
 use Rattle.wire.specs.Frame.{Message, answer_of, frame}
 use Rattle.wire.specs.declared.Way.TheVariants.{ToDevice, ToTill}
@@ -9,7 +9,7 @@ use Rattle.books.specs.declared.Books.{Books}
 use Rattle.answers.specs.Contents.{content_of}
 use Rattle.answers.specs.Status.{receipts, memories}
 use Rattle.kinds.specs.declared.Command as kinds
-use Rattle.kinds.specs.declared.Parsed.TheVariants as parsed
+use Rattle.kinds.specs.declared.Unread.TheVariants as unread
 use Rattle.command.specs.Commands.{parsed_of}
 use Rattle.line.specs.Turns.{was, State, switched_on, repeats, last_answer}
 use Rattle.sheet.specs.Notes.{noted}
@@ -71,7 +71,7 @@ pub record NewFrame (s : State Store) (lent : Lent) (byte : ℕ) (m : Message) :
 -- PROTOCOL 5.1: and it is read as one of the seventeen kinds
 pub record NewCommand (s : State Store) (lent : Lent) (byte : ℕ) (m : Message) (c : kinds.Command) : Type 0 where
   pub frame : NewFrame s lent byte m
-  pub kind : parsed_of m.code m.content ≡ parsed.Read c
+  pub kind : parsed_of m.code m.content ≡ Ok c
 
 -- PROTOCOL 1.2, 3.2, 3.3: the answer to a command, with its SEQ and CMD: two status bytes tell the verdict, the other four the books behind it. Bit k of a
 -- status byte counts 2 to the power of k, and bit 7 is 1 in all of them (3.1): bit 0.0 is 01h, 0.1 02h, 0.5 20h; 1.0 01h, 1.1 02h.
@@ -117,10 +117,10 @@ pub data ByDevice (s : State Store) (lent : Lent) (byte : ℕ) : FromDevice → 
   row_0_done : (m : Message) (c : kinds.Command) → NewCommand s lent byte m c → three s.store c ≡ false → four s.store c ≡ false
       → ByDevice s lent byte (shows 0 (done_with s.store m c) (shown_by m.code m.content) lent (remembers s byte m (done_with s.store m c) (leaves_of s.store c m.content)))
   -- 1, syntax: an answer with no data and verdict A1 80 (3.2); the books stay, counters and closings too (2.3)
-  row_1 : (m : Message) → NewFrame s lent byte m → parsed_of m.code m.content ≡ parsed.Syntax
+  row_1 : (m : Message) → NewFrame s lent byte m → parsed_of m.code m.content ≡ Err unread.Syntax
       → ByDevice s lent byte (tells 1 (answer_with m [] 0xA1 0x80 s.store.books) lent (remembers s byte m (answer_with m [] 0xA1 0x80 s.store.books) s.store))
   -- 2, unknown command: the same with verdict A2 80
-  row_2 : (m : Message) → NewFrame s lent byte m → parsed_of m.code m.content ≡ parsed.Unknown
+  row_2 : (m : Message) → NewFrame s lent byte m → parsed_of m.code m.content ≡ Err unread.Unknown
       → ByDevice s lent byte (tells 2 (answer_with m [] 0xA2 0x80 s.store.books) lent (remembers s byte m (answer_with m [] 0xA2 0x80 s.store.books) s.store))
   -- 3, not permitted now: a reason for 3; the same with verdict A0 82, but for the count of wrong passwords (5.20)
   row_3 : (m : Message) (c : kinds.Command) → NewCommand s lent byte m c → three s.store c ≡ true

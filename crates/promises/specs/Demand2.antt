@@ -1,10 +1,9 @@
 -- Demand 2: "Cash equals all that was put in less all that was taken out, over the whole history." What the statements speak of: any bytes that
 -- arrive at a fresh device, each with some buffer lent, however often it is switched on anew, and what its turns gave back.
-use Rattle.std.specs.Prelude.{ℕ, ◌-◌, List, [], ◌∷◌, ◌++◌, map, length, take, drop, replicate}
+use Rattle.std.specs.Prelude.{ℕ, ◌-◌, List, [], ◌∷◌, ◌++◌, map, length, take, drop, replicate, Ok, Err}
 use Rattle.text.specs.Digits.{number}
 use Rattle.wire.specs.Frame.{Message}
-use Rattle.kinds.specs.declared.Parsed.{Parsed}
-use Rattle.kinds.specs.declared.Parsed.TheVariants.{Read, Syntax, Unknown}
+use Rattle.kinds.specs.Fields.{Parsed}
 use Rattle.command.specs.Commands.{parsed_of}
 use Rattle.books.specs.declared.Books.{Books}
 use Rattle.history.specs.Entries.{Entry}
@@ -56,9 +55,8 @@ data_in answer = take (length answer - 17) (drop 4 answer)
 -- what a turn tells of the command it carried out: the turn's own reply number, and the data of the answer it gave back. Syntax (1) and unknown
 -- commands (2) are no commands
 abbrev pub with_read : Turn Store → Parsed → List Entry → List Entry
-with_read t (Read c) es = record { command = c; number = t.number; shown = data_in t.gives } ∷ es
-with_read t Syntax es = es
-with_read t Unknown es = es
+with_read t (Ok c) es = record { command = c; number = t.number; shown = data_in t.gives } ∷ es
+with_read t (Err why) es = es
 
 -- a turn that carried out nothing tells nothing: a byte within a frame, NAK, a repeat, 7
 abbrev pub with_turn : Turn Store → List Message → List Entry → List Entry

@@ -1,4 +1,5 @@
 -- Built is all that is read: whatever is heard as whole is the frame of what was heard, and stands at the end of what came.
+use Rattle.std.proofs.lemmas.Bool.{and_parts}
 use mathlib.Core.Path.{◌≡◌, refl, sym, ap, ◌∙◌, subst}
 use mathlib.Core.Bool.{Bool, true}
 use mathlib.Core.Logic.{◌⊎◌, ⊎_elim, inl, inr}
@@ -17,7 +18,7 @@ use Rattle.wire.specs.declared.Way.{Way}
 use Rattle.wire.specs.declared.Way.TheVariants.{ToDevice, ToTill}
 use Rattle.wire.specs.declared.Role.TheVariants.{Name, Data, Status}
 use Rattle.text.proofs.Laws.{empty}
-use Rattle.wire.proofs.Suits.{both, length_front}
+use Rattle.wire.proofs.Suits.{length_front}
 use Rattle.reader.specs.Reading.{message, suits, at_last, grown}
 use Rattle.reader.proofs.Passing.{Pass, done, more, pass_short, pass_snoc}
 use Rattle.reader.proofs.Walking.{sum_on, sum_snoc}
@@ -213,7 +214,7 @@ module _ (k : Way) (sum size : ℕ) (a q : List ℕ) (b : ℕ) (range : within (
 
   in-range : (shortest k ≤ size) × (size ≤ longest k)
   in-range =
-      let two = both (leb (shortest k) size) (leb size (longest k)) range in
+      let two = and_parts (leb (shortest k) size) (leb size (longest k)) range in
       (leb-true (shortest k) size two.0, leb-true size (longest k) two.1)
 
   h : Parts k s.message

@@ -1,4 +1,5 @@
 -- However reading goes on, the bytes since 01h are few: a frame's LEN is in its range, and behind its last byte nothing suits.
+use Rattle.std.proofs.lemmas.Bool.{and_parts}
 use mathlib.Core.Path.{◌≡◌, sym, subst}
 use mathlib.Core.Bool.{true, false}
 use mathlib.Core.List.{List, [], ◌∷◌, ◌++◌}
@@ -11,7 +12,7 @@ use borrow.Author.Tests.{leb-true, eqb-false}
 use Rattle.wire.specs.Places.{front, behind_data, data_count, shortest, longest}
 use Rattle.wire.specs.declared.Way.{Way}
 use Rattle.wire.specs.declared.Way.TheVariants.{ToDevice, ToTill}
-use Rattle.wire.proofs.Suits.{both, length_front}
+use Rattle.wire.proofs.Suits.{length_front}
 use Rattle.reader.specs.Reading.{Place, outside, inside, Read, suits, at_last, grown, read}
 use Rattle.reader.proofs.Steps.{Ways, starts_anew_lem, is_skipped, breaks, goes_on_lem, ends, ways}
 use Rattle.reader.proofs.Running.{bytes_of}
@@ -34,7 +35,7 @@ underway_few k (inside sum (len ∷ rest)) h = omega (arith, h.0, h.1, length_fr
 module _ (k : Way) (b : ℕ) where
   one_more_lem : (sum : ℕ) (bytes : List ℕ) → Underway k (inside sum bytes) → suits k sum bytes b ≡ true → at_last k bytes ≡ false
       → Underway k (inside (grown k sum bytes b) (bytes ++ b ∷ []))
-  one_more_lem sum [] h es el = (leb-true b (longest k) (both (leb (shortest k) b) (leb b (longest k)) es).1, omega arith)
+  one_more_lem sum [] h es el = (leb-true b (longest k) (and_parts (leb (shortest k) b) (leb b (longest k)) es).1, omega arith)
   one_more_lem sum (len ∷ rest) h es el =
       (h.0, go (dec_lt (length rest) (length (front k (data_count k len)) + 4)))
     where

@@ -1,4 +1,5 @@
 -- A list of bytes that passes a list of tests, one to a byte.
+use Rattle.std.proofs.lemmas.Bool.{and_parts}
 use mathlib.Core.Path.{◌≡◌, refl, sym, ◌∙◌}
 use mathlib.Core.Bool.{Bool, true, false, false≢true}
 use mathlib.Core.List.{List, [], ◌∷◌, ◌++◌}
@@ -12,7 +13,6 @@ use Rattle.wire.specs.Frame.{hexadecimal}
 use Rattle.wire.specs.declared.Way.{Way}
 use Rattle.wire.specs.declared.Way.TheVariants.{ToDevice, ToTill}
 use Rattle.wire.specs.declared.Role.TheVariants.{Name, Data, Status}
-use Rattle.wire.proofs.Suits.{both}
 
 -- the bytes pass the first tests
 pub data Pass : List (ℕ → Bool) → List ℕ → Type 0 where
@@ -44,7 +44,7 @@ pass_join (more e p) l q = more e (pass_join p (omega arith) q)
 -- a run of one test
 pub pass_every : (t : ℕ → Bool) (xs : List ℕ) → every t xs ≡ true → Pass (replicate (length xs) t) xs
 pass_every t [] e = done
-pass_every t (x ∷ xs) e = more (both (t x) (every t xs) e).0 (pass_every t xs (both (t x) (every t xs) e).1)
+pass_every t (x ∷ xs) e = more (and_parts (t x) (every t xs) e).0 (pass_every t xs (and_parts (t x) (every t xs) e).1)
 
 -- no place takes 01h
 pub data Rejects : List (ℕ → Bool) → Type 0 where

@@ -1,4 +1,5 @@
 -- Read what was built: the frame of whatever can be sent, read from any place, is heard as exactly that.
+use Rattle.std.proofs.lemmas.Bool.{and_parts}
 use mathlib.Core.Path.{◌≡◌, refl, sym, ap, ◌∙◌}
 use mathlib.Core.Bool.{Bool, true, ◌&&◌}
 use mathlib.Core.List.{List, [], ◌∷◌, ◌++◌, append_assoc, append-nil}
@@ -16,7 +17,7 @@ use Rattle.wire.specs.declared.Way.{Way}
 use Rattle.wire.specs.declared.Way.TheVariants.{ToDevice, ToTill}
 use Rattle.wire.specs.declared.Role.TheVariants.{Name, Data, Status}
 use Rattle.text.proofs.Laws.{empty}
-use Rattle.wire.proofs.Suits.{both, length_front, behind_small}
+use Rattle.wire.proofs.Suits.{length_front, behind_small}
 use Rattle.wire.proofs.Building.{bcc_mod, length-enclosed}
 use Rattle.reader.specs.Reading.{Place, outside, inside, nothing, heard, read, starts_anew, message, Run, run}
 use Rattle.reader.proofs.Steps.{read_start, read_other_lem, reads_whole, len_more}
@@ -34,11 +35,11 @@ pub record Parts (k : Way) (m : Message) : Type 0 where
 
 pub parts : (k : Way) (m : Message) → sendable k m ≡ true → Parts k m
 parts k m e =
-    let whole = both (carriable m.seq m.code m.content && eqb (length m.status) (statuses k)) (every (may_stand Status) m.status) e in
-    let state = both (carriable m.seq m.code m.content) (eqb (length m.status) (statuses k)) whole.0 in
-    let bytes = both (may_stand Name m.seq && may_stand Name m.code && leb (length m.content) 200) (every (may_stand Data) m.content) state.0 in
-    let count = both (may_stand Name m.seq && may_stand Name m.code) (leb (length m.content) 200) bytes.0 in
-    let marks = both (may_stand Name m.seq) (may_stand Name m.code) count.0 in
+    let whole = and_parts (carriable m.seq m.code m.content && eqb (length m.status) (statuses k)) (every (may_stand Status) m.status) e in
+    let state = and_parts (carriable m.seq m.code m.content) (eqb (length m.status) (statuses k)) whole.0 in
+    let bytes = and_parts (may_stand Name m.seq && may_stand Name m.code && leb (length m.content) 200) (every (may_stand Data) m.content) state.0 in
+    let count = and_parts (may_stand Name m.seq && may_stand Name m.code) (leb (length m.content) 200) bytes.0 in
+    let marks = and_parts (may_stand Name m.seq) (may_stand Name m.code) count.0 in
     record {
       seq = marks.0;
       code = marks.1;

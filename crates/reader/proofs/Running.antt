@@ -3,10 +3,10 @@ use mathlib.Core.Path.{◌≡◌, refl, sym, ap, ◌∙◌, subst}
 use mathlib.Core.Bool.{Bool, true, false, cond}
 use mathlib.Core.List.{List, [], ◌∷◌}
 use Prim.Native.Nat.{ℕ, suc, ◌+◌, ◌*◌, ◌≤◌, ◌<◌}
-use native.Mathlib.Nat.{add_assoc, add-zero, zero-add}
+use native.Mathlib.Nat.{add_assoc, zero-add}
 use native.Mathlib.Numerals.{add-one}
 use native.Mathlib.Omega.{arith}
-use lib.ListN.{length, get_or, take, drop, replicate, length-append, length-replicate, length-take, drop_of_length-le}
+use lib.ListN.{length, get_or, take, drop, replicate, length-append, length-replicate, length-take}
 use lib.Seq.{sets-eq, length-sets, take_at, drop-cons}
 use Rattle.reader.specs.Private.{broken_of, whole_of}
 use Rattle.reader.specs.Reading.{Place, outside, inside, Read, Event, nothing, broken_frame, heard, read, Run, run}
@@ -146,11 +146,6 @@ module _ (kind : Way) (bytes array : List ℕ) (reader : Reader) (b w i : ℕ) (
       }
 
   pub head_turn : (array' : List ℕ) (taken : Taken) → taken ≡ taken_of step → array' ≡ kept_in array step.place → taken.reader.count < 256
-      → (b' w' : ℕ) → b' ≡ broken_of taken.heard → w' ≡ whole_of taken.heard → Head kind bytes array' taken.reader (b + b') (w + w') (i + 1)
+      → (b' w' : ℕ) → b' ≡ b + broken_of taken.heard → w' ≡ w + whole_of taken.heard → Head kind bytes array' taken.reader b' w' (i + 1)
   head_turn array' taken et ea fits b' w' eb ew =
       rw (eb, ew, et, ea) (made-turn (subst (λ (t : Taken). t.reader.count < 256) et fits))
-
-pub head_done : (kind : Way) (bytes array : List ℕ) (reader : Reader) (b w i : ℕ) → Head kind bytes array reader b w i → length bytes ≤ i
-    → record { reader = reader; broken = b; whole = w } ≡ told_of (run kind outside bytes)
-head_done kind bytes array reader b w i h done =
-    sym (h.told ∙ ap (λ z. onto (run kind (place_of reader array) z) b w) (drop_of_length-le bytes done) ∙ rw (add-zero b, add-zero w, ← h.fields))

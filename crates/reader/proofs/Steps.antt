@@ -7,7 +7,7 @@ use native.Mathlib.Omega.{arith}
 use lib.Dec.{ltb, eqb}
 use lib.ListN.{length, get_or, take, drop, set, length-append, length-drop, get_or-append}
 use lib.Seq.{get_or-append-add, length-take-le, get_or-take}
-use borrow.Author.Tests.{le-leb, lt-leb, lt-ltb, le-ltb, eq-eqb, ne_eqb, eqb-true, eqb-false}
+use borrow.Author.Tests.{le-leb, lt-ltb, le-ltb, eq-eqb, ne_eqb, eqb-true, eqb-false}
 use Rattle.text.proofs.Laws.{sets-append, sets_same}
 use Rattle.wire.proofs.Suits.{length_front}
 use Rattle.wire.specs.Places.{front, ending, none, shortest, longest}
@@ -39,12 +39,6 @@ reads array after r x y e p q = (p ∙ ap taken_of (sym e), q ∙ ap (λ z. kept
 
 -- the byte directly behind 01h
 module _ (k : Way) (b : ℕ) where
-  pub len_low : b < shortest k → read_other k (inside 0 []) b ≡ record { place = outside; event = broken_frame }
-  len_low h = reads_broken k 0 [] b (rw (lt-leb (shortest k) b h))
-
-  pub len_high : shortest k ≤ b → longest k < b → read_other k (inside 0 []) b ≡ record { place = outside; event = broken_frame }
-  len_high h g = reads_broken k 0 [] b (rw (le-leb (shortest k) b h, lt-leb b (longest k) g))
-
   pub len_more : shortest k ≤ b → b ≤ longest k → read_other k (inside 0 []) b ≡ record { place = inside b (b ∷ []); event = nothing }
   len_more h g = reads_more k 0 [] b (rw (le-leb (shortest k) b h, le-leb b (longest k) g)) refl
 
@@ -101,9 +95,6 @@ module _ (k : Way) (n count : ℕ) (array : List ℕ) (in_frame : Behind k n cou
     suits-front : suits k sum bytes b ≡ get_or (front k n) (count - 1) none b
     suits-front = suits-at ∙ ap (λ (t : ℕ → Bool). t b) (get_or-append (front k n) (ending sum) none (count - 1) (omega (arith, in_frame.some)))
 
-    pub front_broken : get_or (front k n) (count - 1) none b ≡ false → read_other k (inside sum bytes) b ≡ record { place = outside; event = broken_frame }
-    front_broken e = reads_broken k sum bytes b (suits-front ∙ e)
-
     pub front_more : get_or (front k n) (count - 1) none b ≡ true
         → read_other k (inside sum bytes) b ≡ record { place = inside ((sum + b) % 65536) (bytes ++ b ∷ []); event = nothing }
     front_more e =
@@ -119,10 +110,6 @@ module _ (k : Way) (n count : ℕ) (array : List ℕ) (in_frame : Behind k n cou
         suits-at ∙ ap (λ (t : ℕ → Bool). t b) (
         ap (λ j. get_or (front k n ++ ending sum) j none) (sym at)
         ∙ get_or-append-add (front k n) (ending sum) (count - 1 - length (front k n)) none)
-
-    pub ending_broken : get_or (ending sum) (count - 1 - length (front k n)) none b ≡ false
-        → read_other k (inside sum bytes) b ≡ record { place = outside; event = broken_frame }
-    ending_broken e = reads_broken k sum bytes b (suits-ending ∙ e)
 
     pub ending_more : get_or (ending sum) (count - 1 - length (front k n)) none b ≡ true → (count - 1 - length (front k n) ≡ 4 → ⊥)
         → read_other k (inside sum bytes) b ≡ record { place = inside sum (bytes ++ b ∷ []); event = nothing }
@@ -156,9 +143,6 @@ starts r array s = go r.inside r.count
     go false count = refl
     go true zero = refl
     go true (suc count) = rw (first_of (suc count) array (omega arith) s, lt-ltb 0 (suc count) (omega arith))
-
-pub place_in : (r : Reader) (array : List ℕ) → r.inside ≡ true → place_of r array ≡ inside r.sum (take r.count array)
-place_in r array e = rw e
 
 pub place_out : (r : Reader) (array : List ℕ) → r.inside ≡ false → place_of r array ≡ outside
 place_out r array e = rw e

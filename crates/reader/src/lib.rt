@@ -1,10 +1,11 @@
 // Reading a frame, one byte at a time (PROTOCOL 1.7 to 1.9).
 #![tactic(auto)]
 
-ghost use Rattle.std.specs.Prelude.{◌≡◌, cond, ◌&&◌, [], ◌<◌, ◌≤◌, ◌+◌, ltb, length, get_or, take};
+ghost use Rattle.std.specs.Prelude.{◌≡◌, true, cond, ◌&&◌, [], ◌<◌, ◌≤◌, ◌+◌, ltb, length, get_or, take};
 ghost use Rattle.wire.specs.Places.{front};
 ghost use Rattle.reader.specs.Reading.{read, read_other, run, outside, inside, nothing, broken_frame};
-ghost use Rattle.reader.specs.Private.{Behind, broken_of, whole_of};
+ghost use Rattle.reader.specs.Private.{Behind};
+ghost use Rattle.reader.specs.declared.Heard.TheVariants.{Nothing};
 ghost use Rattle.reader.specs.Fields.{place_of, reader_of, kept_in, taken_of, told_of};
 
 use wire::{LEAST_LEN, MOST_DATA, Way, suit};
@@ -21,7 +22,7 @@ pub struct Reader {
 }
 
 // What one byte brings. A whole frame's data stands in the lent array from its fourth byte on.
-#[derive(Clone, Copy)]
+#[derive(Clone, Copy, PartialEq, Eq)]
 pub enum Heard {
     Nothing,
     Broken,
@@ -58,32 +59,20 @@ pub fn take_byte(way: Way, reader: Reader, array: &mut [u8; FRAME_ROOM], b: u8) 
     ensures value { result ≡ taken_of (read way (place_of reader array.old) b) }
     ensures array_after { array.new ≡ kept_in array.old (read way (place_of reader array.old) b).place }
 {
-    let len = first(&*array);
-    let within = reader.inside;
-    let count = reader.count;
     if b == 0x01 {
-        return started(within, count);
+        return started(reader.inside, reader.count);
     }
-    if !within {
+    if !reader.inside {
         return Taken {
             reader: fresh(),
             heard: Heard::Nothing,
         };
     }
-    if count == 0 {
+    if reader.count == 0 {
         return take_len(way, array, b);
     }
-    take_behind(way, suit::data_count(way, len), count, reader.sum, array, b)
-}
-
-// The first byte, which is LEN inside a frame.
-fn first(bytes: &[u8]) -> u8
-    ensures { result ≡ get_or bytes.now 0 0 }
-{
-    if bytes.len() == 0 {
-        return 0;
-    }
-    bytes[0]
+    let n = suit::data_count(way, array[0]);
+    reader.take_behind(way, n, array, b)
 }
 
 // A whole run of bytes, heard by a fresh reader.
@@ -94,15 +83,14 @@ pub fn listen(way: Way, bytes: &[u8]) -> Told
     let mut reader = fresh();
     let mut broken: usize = 0;
     let mut whole: usize = 0;
-    let mut i = 0;
-    while i < bytes.len() {
-        let taken = take_byte(way, reader, &mut array, bytes[i]);
-        let next = taken.reader;
-        let heard = taken.heard;
-        reader = next;
-        broken += broken_in(heard);
-        whole += whole_in(heard);
-        i += 1;
+    for b in bytes {
+        let taken = take_byte(way, reader, &mut array, *b);
+        reader = taken.reader;
+        match taken.heard {
+            Heard::Nothing => {}
+            Heard::Broken => broken += 1,
+            Heard::Whole { .. } => whole += 1,
+        }
     }
     Told {
         reader,
@@ -111,58 +99,22 @@ pub fn listen(way: Way, bytes: &[u8]) -> Told
     }
 }
 
-fn broken_in(heard: Heard) -> usize
-    ensures { result ≡ broken_of heard }
-{
-    match heard {
-        Heard::Nothing => 0,
-        Heard::Broken => 1,
-        Heard::Whole {
-            seq: _,
-            code: _,
-            count: _,
-        } => 0,
-    }
-}
-
-fn whole_in(heard: Heard) -> usize
-    ensures { result ≡ whole_of heard }
-{
-    match heard {
-        Heard::Nothing => 0,
-        Heard::Broken => 0,
-        Heard::Whole {
-            seq: _,
-            code: _,
-            count: _,
-        } => 1,
-    }
-}
-
 // 01h: the place directly behind it, and a broken frame where bytes had followed an earlier one.
 fn started(within: bool, count: u8) -> Taken
     ensures { result ≡ taken_of (record { place = inside 0 []; event = cond (within && ltb 0 count) broken_frame nothing }) }
 {
-    let reader = Reader {
-        inside: true,
-        count: 0,
-        sum: 0,
+    let heard = if within && count != 0 {
+        Heard::Broken
+    } else {
+        Heard::Nothing
     };
-    if !within {
-        return Taken {
-            reader,
-            heard: Heard::Nothing,
-        };
-    }
-    if count == 0 {
-        return Taken {
-            reader,
-            heard: Heard::Nothing,
-        };
-    }
     Taken {
-        reader,
-        heard: Heard::Broken,
+        reader: Reader {
+            inside: true,
+            count: 0,
+            sum: 0,
+        },
+        heard,
     }
 }
 
@@ -182,10 +134,7 @@ fn take_len(way: Way, array: &mut [u8; FRAME_ROOM], b: u8) -> Taken
 {
     let least = LEAST_LEN + suit::behind_data(way);
     let len = b as usize;
-    if len < least {
-        return broken();
-    }
-    if least + MOST_DATA < len {
+    if len < least || least + MOST_DATA < len {
         return broken();
     }
     array[0] = b;
@@ -199,87 +148,82 @@ fn take_len(way: Way, array: &mut [u8; FRAME_ROOM], b: u8) -> Taken
     }
 }
 
-// A byte behind LEN.
-fn take_behind(
-    way: Way,
-    n: usize,
-    count: u8,
-    sum: u16,
-    array: &mut [u8; FRAME_ROOM],
-    b: u8,
-) -> Taken
-    requires { Behind way n count array.old }
-    ensures value { result ≡ taken_of (read_other way (inside sum (take count array.old)) b) }
-    ensures array_after { array.new ≡ kept_in array.old (read_other way (inside sum (take count array.old)) b).place }
-{
-    let edge = 3 + n + suit::behind_data(way);
-    let at = count as usize - 1;
-    if at < edge {
-        return take_front(way, n, count, sum, array, b);
+impl Reader {
+    // A byte behind LEN, which announces n data bytes.
+    fn take_behind(self, way: Way, n: usize, array: &mut [u8; FRAME_ROOM], b: u8) -> Taken
+        requires { Behind way n self.count array.old }
+        ensures value { result ≡ taken_of (read_other way (inside self.sum (take self.count array.old)) b) }
+        ensures array_after { array.new ≡ kept_in array.old (read_other way (inside self.sum (take self.count array.old)) b).place }
+    {
+        let edge = 3 + n + suit::behind_data(way);
+        let at = self.count as usize - 1;
+        if at < edge {
+            return self.take_front(way, n, array, b);
+        }
+        self.take_ending(way, n, edge, array, b)
     }
-    take_ending(way, n, edge, count, sum, array, b)
-}
 
-// A byte up to 05h: it is added.
-fn take_front(way: Way, n: usize, count: u8, sum: u16, array: &mut [u8; FRAME_ROOM], b: u8) -> Taken
-    requires behind { Behind way n count array.old }
-    requires count_in_bounds { count ≤ length (front way n) }
-    ensures value { result ≡ taken_of (read_other way (inside sum (take count array.old)) b) }
-    ensures array_after { array.new ≡ kept_in array.old (read_other way (inside sum (take count array.old)) b).place }
-{
-    let i = count as usize;
-    if !suit::suits_front(way, n, i - 1, b) {
-        return broken();
+    // A byte up to 05h: it is added.
+    fn take_front(self, way: Way, n: usize, array: &mut [u8; FRAME_ROOM], b: u8) -> Taken
+        requires behind { Behind way n self.count array.old }
+        requires count_in_bounds { self.count ≤ length (front way n) }
+        ensures value { result ≡ taken_of (read_other way (inside self.sum (take self.count array.old)) b) }
+        ensures array_after { array.new ≡ kept_in array.old (read_other way (inside self.sum (take self.count array.old)) b).place }
+    {
+        let i = self.count as usize;
+        if !suit::suits_front(way, n, i - 1, b) {
+            return broken();
+        }
+        array[i] = b;
+        self.goes_on(self.sum.wrapping_add(b as u16))
     }
-    array[i] = b;
-    Taken {
-        reader: Reader {
-            inside: true,
-            count: count + 1,
-            sum: ((sum as u32 + b as u32) % 65536) as u16,
-        },
-        heard: Heard::Nothing,
-    }
-}
 
-// A byte behind 05h; the fifth is the frame's last.
-fn take_ending(
-    way: Way,
-    n: usize,
-    edge: usize,
-    count: u8,
-    sum: u16,
-    array: &mut [u8; FRAME_ROOM],
-    b: u8,
-) -> Taken
-    requires behind { Behind way n count array.old }
-    requires edge_value { edge ≡ length (front way n) }
-    requires edge_lt_count { edge < count }
-    ensures value { result ≡ taken_of (read_other way (inside sum (take count array.old)) b) }
-    ensures array_after { array.new ≡ kept_in array.old (read_other way (inside sum (take count array.old)) b).place }
-{
-    let i = count as usize;
-    let at = i - 1 - edge;
-    if !suit::suits_ending(sum, at, b) {
-        return broken();
+    // A byte behind 05h; the fifth is the frame's last.
+    fn take_ending(
+        self,
+        way: Way,
+        n: usize,
+        edge: usize,
+        array: &mut [u8; FRAME_ROOM],
+        b: u8,
+    ) -> Taken
+        requires behind { Behind way n self.count array.old }
+        requires edge_value { edge ≡ length (front way n) }
+        requires edge_lt_count { edge < self.count }
+        ensures value { result ≡ taken_of (read_other way (inside self.sum (take self.count array.old)) b) }
+        ensures array_after { array.new ≡ kept_in array.old (read_other way (inside self.sum (take self.count array.old)) b).place }
+    {
+        let i = self.count as usize;
+        let at = i - 1 - edge;
+        if !suit::suits_ending(self.sum, at, b) {
+            return broken();
+        }
+        if at == 4 {
+            return Taken {
+                reader: fresh(),
+                heard: Heard::Whole {
+                    seq: array[1],
+                    code: array[2],
+                    count: n,
+                },
+            };
+        }
+        array[i] = b;
+        self.goes_on(self.sum)
     }
-    if at == 4 {
-        return Taken {
-            reader: fresh(),
-            heard: Heard::Whole {
-                seq: array[1],
-                code: array[2],
-                count: n,
+
+    // One byte more, up to which the sum is this one.
+    fn goes_on(self, sum: u16) -> Taken
+        requires { self.count < 255 }
+        ensures { result ≡ record { reader = record { inside = true; count = self.count + 1; sum = sum }; heard = Nothing } }
+    {
+        Taken {
+            reader: Reader {
+                inside: true,
+                count: self.count + 1,
+                sum,
             },
-        };
-    }
-    array[i] = b;
-    Taken {
-        reader: Reader {
-            inside: true,
-            count: count + 1,
-            sum,
-        },
-        heard: Heard::Nothing,
+            heard: Heard::Nothing,
+        }
     }
 }

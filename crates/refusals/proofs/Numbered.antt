@@ -9,9 +9,9 @@ use Rattle.guard.specs.Guard.{trial_of, verdict_of, passes, judged_by}
 use Rattle.guard.specs.declared.Guard.{Guard}
 use Rattle.guard.specs.declared.Verdict.{Verdict}
 use Rattle.guard.specs.declared.Verdict.TheVariants as verdict
-use Rattle.kinds.specs.declared.Parsed.{Parsed}
-use Rattle.kinds.specs.declared.Parsed.TheVariants as parsed
-use Rattle.sheet.specs.declared.Match.{Match}
+use Rattle.std.specs.Prelude.{Option, is_some, unwrap_or, Ok, Err}
+use Rattle.kinds.specs.Fields.{Parsed}
+use Rattle.kinds.specs.declared.Unread.TheVariants as unread
 use Rattle.receipt.specs.Lines.{product_of, finished_of, too_much_off, adjust_fits, fits}
 use Rattle.receipt.specs.Receipts.{amount_of, group_after, total_after, is_cash}
 use Rattle.shares.specs.Shares.{sum_after}
@@ -153,14 +153,14 @@ sells false false false false false false false x y false false false true = ref
 sells false false false false false false false x y false false false false = refl
 
 -- the reason against a view has the number of its deed
-pub view_number : (b : Books) (m : Match) (v : View) → reason_number (against_view b m v) ≡ (deed_of b m v).number
+pub view_number : (b : Books) (m : Option ℕ) (v : View) → reason_number (against_view b m v) ≡ (deed_of b m v).number
 view_number b m v = told v ∙ sym (numbered b (rule_of b m v))
   where
     told : (v : View) → reason_number (against_view b m v) ≡ number_by (rule_of b m v).one (rule_of b m v).three (rule_of b m v).four
     told Opens = opens (any_open b.opened) (many_opened b) (full b) (leb most_receipts b.counters.fiscal)
     told (Sells s) =
         sells (not (fits s)) (none_open b) b.receipt.tried (leb 512 b.receipt.lines) (not (is_enabled (rate_in b s.group))) (too_much_off (product_of s) s.adjust)
-        s.minus (not m.found) (ltb (at b.receipt.groups s.group) m.amount)
+        s.minus (not (is_some m)) (ltb (at b.receipt.groups s.group) (unwrap_or m 0))
         (ltb 99999999 (product_of s)) (ltb 99999999 (amount_of s m)) (ltb 9999999999 (total_after b.receipt s m)) (ltb 999999999999 (at b.day s.group + group_after b.receipt s m))
     told (Adjusts a) =
         adjusts (not (adjust_fits false a)) (none_open b) b.receipt.tried (eqb b.receipt.total 0) (too_much_off b.receipt.total a)
@@ -182,14 +182,14 @@ view_number b m v = told v ∙ sym (numbered b (rule_of b m v))
     told (Asks NoneIsOpen shown) = asks_none (any_open b.opened)
 
 -- PROTOCOL 5.20: what the guard does not let pass is 3, with its reason
-verdict_number_lem : (b : Books) (m : Match) (w : Verdict) (v : View) → reason_number (against_verdict w b m v) ≡ (cond (passes w) (deed_of b m v) (refused_with 3 b)).number
+verdict_number_lem : (b : Books) (m : Option ℕ) (w : Verdict) (v : View) → reason_number (against_verdict w b m v) ≡ (cond (passes w) (deed_of b m v) (refused_with 3 b)).number
 verdict_number_lem b m verdict.Free v = view_number b m v
 verdict_number_lem b m verdict.Right v = view_number b m v
 verdict_number_lem b m verdict.Wrong v = refl
 verdict_number_lem b m verdict.Locked v = refl
 
 -- and so has the reason for any command: what it is refused with, or 0
-pub reason_number_lem : (g : Guard) (b : Books) (m : Match) (content : List ℕ) (p : Parsed) → reason_number (reason_of g b m p) ≡ (deed_for b m (judged_by g p content).passes p).number
-reason_number_lem g b m content (parsed.Read c) = verdict_number_lem b m (verdict_of g (trial_of c)) (view_of c)
-reason_number_lem g b m content parsed.Syntax = refl
-reason_number_lem g b m content parsed.Unknown = refl
+pub reason_number_lem : (g : Guard) (b : Books) (m : Option ℕ) (content : List ℕ) (p : Parsed) → reason_number (reason_of g b m p) ≡ (deed_for b m (judged_by g p content).passes p).number
+reason_number_lem g b m content (Ok c) = verdict_number_lem b m (verdict_of g (trial_of c)) (view_of c)
+reason_number_lem g b m content (Err unread.Syntax) = refl
+reason_number_lem g b m content (Err unread.Unknown) = refl

@@ -1,6 +1,6 @@
 -- PROTOCOL chapter 5, *Refused*: why a command is refused. Of each view the first of the tests of its rule that holds (`rule_of`, rules/specs/Rules.antt),
 -- in the order of the rule book's sentences; `Done` where none does.
-use Rattle.std.specs.Prelude.{ℕ, ◌+◌, min, false, cond, not, ◌&&◌, leb, ltb, eqb}
+use Rattle.std.specs.Prelude.{ℕ, ◌+◌, min, false, cond, not, ◌&&◌, leb, ltb, eqb, Option, Ok, Err}
 use Rattle.text.specs.Parts.{every}
 use Rattle.guard.specs.Guard.{trial_of, verdict_of}
 use Rattle.guard.specs.declared.Guard.{Guard}
@@ -8,10 +8,9 @@ use Rattle.guard.specs.declared.Verdict.{Verdict}
 use Rattle.guard.specs.declared.Verdict.TheVariants as verdict
 use Rattle.kinds.specs.declared.Adjust.{Adjust}
 use Rattle.kinds.specs.declared.Command.{Command}
-use Rattle.kinds.specs.declared.Parsed.{Parsed}
-use Rattle.kinds.specs.declared.Parsed.TheVariants as parsed
+use Rattle.kinds.specs.Fields.{Parsed}
+use Rattle.kinds.specs.declared.Unread.TheVariants as unread
 use Rattle.kinds.specs.declared.Payment.{Payment}
-use Rattle.sheet.specs.declared.Match.{Match}
 use Rattle.receipt.specs.Lines.{finished_of, too_much_off, adjust_fits}
 use Rattle.receipt.specs.Receipts.{is_cash}
 use Rattle.shares.specs.Shares.{sum_after}
@@ -113,7 +112,7 @@ against_asks b FiscalIsOpen = cond (none_open b) NoFiscal Done
 against_asks b TextIsOpen = cond (not (text_open b.opened)) NoText Done
 against_asks b NoneIsOpen = cond (any_open b.opened) ReceiptOpen Done
 
-abbrev pub against_view : Books → Match → View → Reason
+abbrev pub against_view : Books → Option ℕ → View → Reason
 against_view b m Opens = against_opens b
 against_view b m (Sells s) = against_sells b m s
 against_view b m (Adjusts a) = against_adjusts b a
@@ -128,17 +127,17 @@ against_view b m (Takes n) = against_takes b n
 against_view b m (Asks when shown) = against_asks b when
 
 -- PROTOCOL 5.20: the guard's reason goes before those of the books
-abbrev pub against_verdict : Verdict → Books → Match → View → Reason
+abbrev pub against_verdict : Verdict → Books → Option ℕ → View → Reason
 against_verdict verdict.Free b m v = against_view b m v
 against_verdict verdict.Right b m v = against_view b m v
 against_verdict verdict.Wrong b m v = WrongPassword
 against_verdict verdict.Locked b m v = Locked
 
-abbrev pub against_command : Guard → Books → Match → Command → Reason
+abbrev pub against_command : Guard → Books → Option ℕ → Command → Reason
 against_command g b m c = against_verdict (verdict_of g (trial_of c)) b m (view_of c)
 
 -- PROTOCOL 2.2: 2 and 1 are told before guard, books and sheet are asked
-abbrev pub reason_of : Guard → Books → Match → Parsed → Reason
-reason_of g b m (parsed.Read c) = against_command g b m c
-reason_of g b m parsed.Syntax = Syntax
-reason_of g b m parsed.Unknown = Unknown
+abbrev pub reason_of : Guard → Books → Option ℕ → Parsed → Reason
+reason_of g b m (Ok c) = against_command g b m c
+reason_of g b m (Err unread.Syntax) = Syntax
+reason_of g b m (Err unread.Unknown) = Unknown

@@ -1,11 +1,11 @@
 -- Laws of the reasons, as the code asks them, and what their absence says.
+use Rattle.std.proofs.lemmas.Bool.{or_parts}
 use mathlib.Core.Path.{◌≡◌, sym, ap, ◌∙◌}
 use mathlib.Core.Bool.{Bool, true, false, not, ◌||◌}
 use Prim.Native.Nat.{ℕ, ◌+◌, ◌-◌, ◌≤◌, ◌<◌}
 use native.Mathlib.Omega.{arith}
 use lib.Dec.{ltb}
 use borrow.Author.Tests.{lt-leb, le-leb, leb-true, leb-false, ltb-false, not-false}
-pub use Rattle.basics.proofs.Tests.{none_of}
 use Rattle.sheet.specs.Sheet.{no_match}
 use Rattle.books.specs.Books.{any_open}
 use Rattle.books.specs.Sound.{in_twelve}
@@ -36,17 +36,17 @@ fits_still s n e = leb-true (s + n) 999999999999 (not-false (in_twelve (s + n)) 
 
 -- 38 and 48 where they are permitted, whatever the sheet says: All can go up by one
 pub few_texts : (b : Books) → (rule_of b no_match OpensText).three ≡ false → b.counters.all < 9999
-few_texts b e = leb-false 9999 b.counters.all (none_of (any_open b.opened) (many_opened b) e).1
+few_texts b e = leb-false 9999 b.counters.all (or_parts (any_open b.opened) (many_opened b) e).1
 
 pub few_receipts : (b : Books) → (rule_of b no_match Opens).three ≡ false → b.counters.all < 9999
 few_receipts b e =
-    leb-false 9999 b.counters.all (none_of (any_open b.opened) (many_opened b) (none_of (any_open b.opened || many_opened b) (full b) e).0).1
+    leb-false 9999 b.counters.all (or_parts (any_open b.opened) (many_opened b) (or_parts (any_open b.opened || many_opened b) (full b) e).0).1
 
 -- 70 where it is permitted: cash and In, or Out, take the amount
 pub puts_within : (b : Books) (n : ℕ) → (rule_of b no_match (Puts n)).four ≡ false → (b.drawer.cash + n ≤ 999999999999) × (b.drawer.put + n ≤ 999999999999)
 puts_within b n e =
-    let e1 = none_of (not (in_twelve (b.drawer.cash + n))) (not (in_twelve (b.drawer.put + n))) e in
+    let e1 = or_parts (not (in_twelve (b.drawer.cash + n))) (not (in_twelve (b.drawer.put + n))) e in
     (fits_still b.drawer.cash n e1.0, fits_still b.drawer.put n e1.1)
 
 pub takes_within : (b : Books) (n : ℕ) → (rule_of b no_match (Takes n)).three ≡ false → n ≤ b.drawer.cash
-takes_within b n e = ltb-false b.drawer.cash n (none_of (any_open b.opened) (ltb b.drawer.cash n) e).1
+takes_within b n e = ltb-false b.drawer.cash n (or_parts (any_open b.opened) (ltb b.drawer.cash n) e).1

@@ -1,8 +1,7 @@
 -- PROTOCOL chapter 5, one rule a view, in the order of the rule book: *Refused* (the reasons for 1, 3 and 4), *Done* and *Answers*.
-use Rattle.std.specs.Prelude.{ℕ, ◌+◌, ◌-◌, min, Bool, false, cond, not, ◌&&◌, ◌||◌, leb, ltb}
+use Rattle.std.specs.Prelude.{ℕ, ◌+◌, ◌-◌, min, Bool, false, cond, not, ◌&&◌, ◌||◌, leb, ltb, Option}
 use Rattle.kinds.specs.declared.Sale.{Sale}
 use Rattle.sheet.specs.Sheet.{line_of}
-use Rattle.sheet.specs.declared.Match.{Match}
 use Rattle.sheet.specs.declared.Note.{Note}
 use Rattle.sheet.specs.declared.Note.TheVariants as note
 use Rattle.receipt.specs.Lines.{adjust_fits, fits}
@@ -38,7 +37,7 @@ abbrev pub note_of : Sale → (amount : ℕ) → Note
 note_of s amount = cond s.minus (note.TakesBack (line_of s amount)) (note.Adds (line_of s amount))
 
 -- what the sheet says to it is asked only of a line
-abbrev pub rule_of : Books → Match → View → Rule
+abbrev pub rule_of : Books → Option ℕ → View → Rule
 -- PROTOCOL 5.3: 48, its password being right (5.20). For 3: a receipt of either kind open, All at 9999, the memory full. For 4 (8.7): Fiscal would pass its digits. The
 -- sheet is emptied
 rule_of b m Opens =

@@ -14,18 +14,8 @@ pub fn search_for(books: Books, view: View) -> Search
     ensures { result ≡ search_for books view }
 {
     match view {
-        View::Opens => no_search(),
         View::Sells(s) => search_back(books, s),
-        View::Adjusts(_) => no_search(),
-        View::Pays(_) => no_search(),
-        View::Closes => no_search(),
-        View::Cancels => no_search(),
-        View::OpensText => no_search(),
-        View::ClosesText => no_search(),
-        View::Clears => no_search(),
-        View::Puts(_) => no_search(),
-        View::Takes(_) => no_search(),
-        View::Asks { when: _, shown: _ } => no_search(),
+        _ => no_search(),
     }
 }
 
@@ -43,10 +33,9 @@ pub fn no_search() -> Search
 fn search_back(books: Books, s: Sale) -> Search
     ensures { result ≡ cond s.minus (record { lines = searched books; wanted = line_of s 0 }) no_search }
 {
-    let receipt = books.receipt;
     if s.minus {
         return Search {
-            lines: basics::least_size(receipt.lines as usize, MOST_LINES),
+            lines: (books.receipt.lines as usize).min(MOST_LINES),
             wanted: sheet::line_of(s, 0),
         };
     }

@@ -1,5 +1,5 @@
 // The reasons against a command, asked one by one (PROTOCOL chapter 5, *Refused*).
-ghost use Rattle.std.specs.Prelude.{◌≡◌, not, ◌||◌, ◌+◌};
+ghost use Rattle.std.specs.Prelude.{◌≡◌, not, ◌+◌};
 ghost use Rattle.books.specs.Groups.{at};
 ghost use Rattle.books.specs.Rates.{is_enabled, rate_in};
 ghost use Rattle.books.specs.Sound.{in_twelve};
@@ -7,20 +7,9 @@ ghost use Rattle.rules.specs.Reasons.{is_price, tender_holds, full, many_opened,
 
 use crate::views::When;
 use amounts::PRICE_LIMIT;
-use books::rates::Rate;
 use books::sound::MOST_RECEIPTS;
 use books::{Books, parts, rates};
 use kinds::Tender;
-
-// One reason or the other.
-pub fn either(a: bool, b: bool) -> bool
-    ensures { result ≡ (a || b) }
-{
-    if a {
-        return true;
-    }
-    b
-}
 
 // Ten digits of stotinki at most.
 pub fn is_price(n: u64) -> bool
@@ -35,12 +24,7 @@ pub fn holds_tender(tender: Tender) -> bool
 {
     match tender {
         Tender::Rest => true,
-        Tender::Amount(n) => {
-            if n <= 0 {
-                return false;
-            }
-            is_price(n)
-        }
+        Tender::Amount(n) => (0 < n) & is_price(n),
     }
 }
 
@@ -48,16 +32,14 @@ pub fn holds_tender(tender: Tender) -> bool
 pub fn is_full(books: Books) -> bool
     ensures { result ≡ full books }
 {
-    let memory = books.memory;
-    rates::capacity(books) <= memory.closings
+    rates::capacity(books) <= books.memory.closings
 }
 
 // Whether All is at its end: no receipt of either kind is opened until the day is closed.
 pub fn are_many(books: Books) -> bool
     ensures { result ≡ many_opened books }
 {
-    let counters = books.counters;
-    MOST_RECEIPTS <= counters.all
+    MOST_RECEIPTS <= books.counters.all
 }
 
 // Whether what has to be open for a command that only asks is not.
@@ -77,11 +59,7 @@ pub fn is_unmet(books: Books, when: When) -> bool
 pub fn is_enabled(books: Books, group: u64) -> bool
     ensures { result ≡ is_enabled (rate_in books group) }
 {
-    let rate = rates::rate_in(books, group);
-    match rate {
-        Rate::Of(_) => true,
-        Rate::Disabled => false,
-    }
+    rates::rate_in(books, group).is_some()
 }
 
 // A group's day sum; past the eighth group there is nothing.
@@ -91,8 +69,7 @@ pub fn day_at(day: [u64; 8], group: u64) -> u64
     if 8 <= group {
         return 0;
     }
-    let g = group as usize;
-    day[g]
+    day[group as usize]
 }
 
 // Whether a sum with n more passes its twelve digits.

@@ -43,17 +43,9 @@ pub fn view_of(command: Command) -> View
             when: When::TextIsOpen,
             shown: Shown::Nothing,
         },
-        Command::Open {
-            op: _,
-            password: _,
-            till: _,
-        } => View::Opens,
+        Command::Open { .. } => View::Opens,
         Command::Sell(s) => View::Sells(s),
-        Command::Subtotal {
-            print: _,
-            show: _,
-            adjust,
-        } => of_subtotal(adjust),
+        Command::Subtotal { adjust, .. } => of_subtotal(adjust),
         Command::Pay(p) => View::Pays(p),
         Command::Close => View::Closes,
         Command::Cancel => View::Cancels,
@@ -68,13 +60,9 @@ pub fn view_of(command: Command) -> View
             when: When::Always,
             shown: Shown::Rates,
         },
-        Command::ShowText => ask_nothing(),
-        Command::ChangePassword {
-            op: _,
-            old: _,
-            new: _,
-        } => ask_nothing(),
-        Command::ChangeName { op: _, password: _ } => ask_nothing(),
+        Command::ShowText | Command::ChangePassword { .. } | Command::ChangeName { .. } => {
+            ask_nothing()
+        }
     }
 }
 
@@ -97,10 +85,7 @@ fn of_subtotal(adjust: Adjust) -> View
             when: When::FiscalIsOpen,
             shown: Shown::Subtotal,
         },
-        Adjust::PercentMore(_) => View::Adjusts(adjust),
-        Adjust::PercentLess(_) => View::Adjusts(adjust),
-        Adjust::AmountMore(_) => View::Adjusts(adjust),
-        Adjust::AmountLess(_) => View::Adjusts(adjust),
+        _ => View::Adjusts(adjust),
     }
 }
 

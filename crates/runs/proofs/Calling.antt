@@ -1,4 +1,5 @@
 -- Calls until all is heard: each takes the run nearer to its end, and so they are as many as `heard_through` makes.
+use Rattle.std.proofs.lemmas.Bool.{and_parts}
 use mathlib.Core.Path.{◌≡◌, refl, sym, ap, ◌∙◌, subst}
 use mathlib.Core.Bool.{Bool, true, false, cond, ◌&&◌}
 use mathlib.Core.List.{List}
@@ -7,7 +8,6 @@ use native.Mathlib.Omega.{arith}
 use lib.Dec.{leb, ltb}
 use lib.ListN.{length, drop}
 use borrow.Author.Tests.{leb-true, ltb-true}
-use Rattle.basics.proofs.Tests.{both}
 use Rattle.sheet.specs.declared.Line.{Line}
 use Rattle.machine.specs.Hearing.{PartHeard, part_of, after_part}
 use Rattle.machine.specs.declared.Hearing.{Hearing}
@@ -32,7 +32,7 @@ module _ (bytes : List ℕ) where
       go : (more : Bool) → ltb 0 taken && ltb (place_after place taken total) total ≡ more → left_by more (place_after place taken total) < suc (total - place)
       go false e = omega arith
       go true e =
-          let two = both (ltb 0 taken) (ltb (place_after place taken total) total) e in
+          let two = and_parts (ltb 0 taken) (ltb (place_after place taken total) total) e in
           by (leb taken (total - place)) refl (ltb-true 0 taken two.0) (ltb-true (place_after place taken total) total two.1)
 
   pub fewer_left : (s : Running) → s.run.more ≡ true → calls_left bytes (one_call bytes s) < calls_left bytes s

@@ -4,7 +4,6 @@ use mathlib.Core.Path.{◌≡◌, refl, sym, ap, ◌∙◌}
 use mathlib.Core.Bool.{Bool, true, false, cond}
 use mathlib.Core.List.{List, []}
 use lib.ListN.{get_or, take}
-use Rattle.till.specs.Words.{count_of}
 use Rattle.till.specs.declared.Word.{Word}
 use Rattle.till.specs.declared.Word.TheVariants.{Idle, Waiting, SendAgain, Answered, Unfinished, TooShort, NotSent}
 use Rattle.words.specs.Words.{words_of}
@@ -14,7 +13,7 @@ use Rattle.words.proofs.Short.{in_front, status_short}
 use Rattle.sentences.specs.Filled.{filled}
 use Rattle.phrases.specs.Sentences.{sentences}
 use Rattle.phrases.proofs.Wording.{same_fill, row_of}
-use Rattle.saying.specs.Answers.{named_text, flag_text, say_of, is_answered, answer_text, says_text}
+use Rattle.saying.specs.Answers.{named_text, flag_text, say_of, says_text}
 use Rattle.saying.specs.Private.{say_row}
 
 say_row_lem : (brief : Bool) (w : Word) → get_or sentences (say_row brief w) [] ≡ say_of brief w
@@ -42,13 +41,13 @@ pub flag_as : (set : Bool) (place bit : ℕ) (w : Words) → w ≡ words_of (sta
 flag_as set place bit w e word f on =
     ap named_text (f ∙ in_front w (status_word place bit) e (status_short place bit)) ∙ ap (λ b. cond b (flag_text place bit) []) (sym on)
 
--- the till end's word: an answer, or any other
-module _ (brief : Bool) (w : Word) (got : List ℕ) where
-  pub says_answered : (all : List ℕ) {n : ℕ} {t : Bool} → all ≡ take n got → n ≡ count_of w → t ≡ is_answered w → t ≡ true → answer_text brief all ≡ says_text brief w got
-  says_answered all e f g h =
-      ap (answer_text brief) (e ∙ ap (λ k. take k got) f)
-      ∙ ap (λ b. cond b (answer_text brief (take (count_of w) got)) (filled (say_of brief w) [] [])) (sym (sym g ∙ h))
-
-  pub says_other : (k : ℕ) {t : Bool} → k ≡ say_row brief w → t ≡ is_answered w → t ≡ false → filled (get_or sentences k []) [] [] ≡ says_text brief w got
-  says_other k e g h =
-      say_as brief w k e ∙ ap (λ b. cond b (answer_text brief (take (count_of w) got)) (filled (say_of brief w) [] [])) (sym (sym g ∙ h))
+-- any word but an answer
+pub says_other : (brief : Bool) (w : Word) (got : List ℕ) (k : ℕ) → k ≡ say_row brief w → ((n : ℕ) → w ≡ Answered n → ⊥)
+    → filled (get_or sentences k []) [] [] ≡ says_text brief w got
+says_other brief Idle got k e f = say_as brief Idle k e
+says_other brief (Waiting n) got k e f = say_as brief (Waiting n) k e
+says_other brief (SendAgain n) got k e f = say_as brief (SendAgain n) k e
+says_other brief (Answered n) got k e f = absurd (f n refl)
+says_other brief (Unfinished n) got k e f = say_as brief (Unfinished n) k e
+says_other brief TooShort got k e f = say_as brief TooShort k e
+says_other brief NotSent got k e f = say_as brief NotSent k e

@@ -3,10 +3,9 @@
 
 ghost use Rattle.std.specs.Prelude.{◌≡◌, ◌<◌, cond, [], ◌∷◌, ◌++◌, eqb};
 ghost use Rattle.sentences.specs.Put.{Put};
-ghost use Rattle.saying.specs.Answers.{is_answered, says_text, answer_text, opening_text, named_text, flag_text, bits_text, status_text};
+ghost use Rattle.saying.specs.Answers.{says_text, answer_text, opening_text, named_text, flag_text, bits_text, status_text};
 ghost use Rattle.saying.specs.Private.{long_row, say_row};
 
-use basics::least_size;
 use phrases::{plain, sentence, worded};
 use sentences::{front, put};
 use till::Word;
@@ -24,23 +23,9 @@ const CONTENT: usize = 18;
 pub fn says(buf: &mut [u8], at: usize, brief: bool, word: Word, got: &[u8]) -> usize
     ensures { Put buf.old at (says_text brief word got.now) buf.new result }
 {
-    if is_answered(word) {
-        return answered(buf, at, brief, front(got, till::count(word)));
-    }
-    plain(buf, at, say_row(brief, word), b"")
-}
-
-fn is_answered(word: Word) -> bool
-    ensures { result ≡ is_answered word }
-{
     match word {
-        Word::Idle => false,
-        Word::Waiting(_) => false,
-        Word::SendAgain(_) => false,
-        Word::Answered(_) => true,
-        Word::Unfinished(_) => false,
-        Word::TooShort => false,
-        Word::NotSent => false,
+        Word::Answered(count) => answered(buf, at, brief, front(got, count)),
+        _ => plain(buf, at, say_row(brief, word), b""),
     }
 }
 
@@ -48,24 +33,17 @@ fn is_answered(word: Word) -> bool
 fn say_row(brief: bool, word: Word) -> usize
     ensures { result ≡ say_row brief word }
 {
-    let long = long_row(word);
-    if brief {
-        return long + 1;
-    }
-    long
+    long_row(word) + usize::from(brief)
 }
 
 fn long_row(word: Word) -> usize
     ensures { (result ≡ long_row word) × (result < 26) }
 {
     match word {
-        Word::Idle => 25,
-        Word::Waiting(_) => 25,
         Word::SendAgain(_) => 19,
-        Word::Answered(_) => 25,
         Word::Unfinished(_) => 21,
-        Word::TooShort => 25,
         Word::NotSent => 23,
+        _ => 25,
     }
 }
 
@@ -98,11 +76,9 @@ fn opening(buf: &mut [u8], at: usize, brief: bool, number: u64, content: &[u8]) 
 fn status(buf: &mut [u8], at: usize, bytes: &[u8]) -> usize
     ensures { Put buf.old at (status_text 0 bytes.now) buf.new result }
 {
-    let mut end = least_size(at, buf.len());
-    let mut i = 0;
-    while i < bytes.len() {
-        end = bits(buf, end, i, bytes[i]);
-        i += 1;
+    let mut end = at.min(buf.len());
+    for (i, &b) in bytes.iter().enumerate() {
+        end = bits(buf, end, i, b);
     }
     end
 }
@@ -111,13 +87,11 @@ fn status(buf: &mut [u8], at: usize, bytes: &[u8]) -> usize
 fn bits(buf: &mut [u8], at: usize, place: usize, byte: u8) -> usize
     ensures { Put buf.old at (bits_text 7 0 place byte) buf.new result }
 {
-    let mut end = least_size(at, buf.len());
+    let mut end = at.min(buf.len());
     let mut above = byte;
-    let mut bit: usize = 0;
-    while bit < 7 {
+    for bit in 0..7 {
         end = flag(buf, end, above % 2 == 1, place, bit);
         above /= 2;
-        bit += 1;
     }
     end
 }
@@ -128,8 +102,7 @@ fn flag(buf: &mut [u8], at: usize, set: bool, place: usize, bit: usize) -> usize
 {
     if set {
         let named = words::status_word(place, bit);
-        let bytes = named.bytes;
-        return named_flag(buf, at, front(&bytes, named.count));
+        return named_flag(buf, at, front(&named.bytes, named.count));
     }
     put(buf, at, b"")
 }

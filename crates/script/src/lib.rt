@@ -4,18 +4,16 @@
 ghost use Rattle.std.specs.Prelude.{◌≡◌, length};
 ghost use Rattle.std.proofs.lemmas.List.Edits.{sets};
 ghost use Rattle.writing.specs.Words.{behind as behind_of};
-ghost use Rattle.script.specs.Script.{says_nothing, replacing, becomes_in, named_in, happens_to, numbered, command_with, coded, act_of, content_of};
+ghost use Rattle.script.specs.Script.{number_of, says_nothing, byte_of, replacing, becomes_in, named_in, numbered, command_with, coded, act_of, content_of};
 
-use basics::least_size;
 use faults::Fault;
-use figures::Number;
 use writing::content::{is_plain, unescape};
 use writing::words::{behind, digit, is, word};
 
 // The most data bytes of a command in a script.
 pub const MOST_CONTENT: usize = 255;
 
-// What a line says: nothing; a command, whose data is so many bytes; what happens to a try, or to its answer; or what is wrong with it.
+// What a line says: nothing; a command, whose data is so many bytes; or what happens to a try, or to its answer.
 #[derive(Clone, Copy)]
 pub enum Act {
     Nothing,
@@ -28,23 +26,32 @@ pub enum Act {
         attempt: u8,
         fault: Fault,
     },
-    Wrong(u8),
 }
 
-// A fault as it is named, or none.
-#[derive(Clone, Copy)]
-pub enum Named {
-    Clear(Fault),
-    Unclear,
+// SCRIPTS 6: what is wrong with a line.
+#[derive(Clone, Copy, PartialEq, Eq)]
+pub enum Mistake {
+    NoCommand = 1,
+    NoEscape = 2,
+    TooLong = 3,
+    NoTry = 4,
+    NoFault = 5,
+}
+
+// The number that SCRIPTS 6 gives it.
+pub fn number(mistake: Mistake) -> u8
+    ensures { result ≡ number_of mistake }
+{
+    mistake as u8
 }
 
 // One line, without its line feed. The data of a command goes to the front of `buf`.
-pub fn read_line(line: &[u8], buf: &mut [u8]) -> Act
+pub fn read_line(line: &[u8], buf: &mut [u8]) -> Result<Act, Mistake>
     ensures value { result ≡ act_of line.now (length buf.old) }
     ensures buf_after { buf.new ≡ sets buf.old 0 (content_of result (behind_of line.now)) }
 {
     if says_nothing(line) {
-        return Act::Nothing;
+        return Ok(Act::Nothing);
     }
     let first = word(line);
     let rest = behind(line);
@@ -60,113 +67,109 @@ pub fn read_line(line: &[u8], buf: &mut [u8]) -> Act
 fn says_nothing(line: &[u8]) -> bool
     ensures { result ≡ says_nothing line.now }
 {
-    if line.len() == 0 {
-        return true;
-    }
-    text::begins_with(line, b'#')
+    line.is_empty() || text::begins_with(line, b'#')
 }
 
 // What happens to the try of a number, or to its answer.
-fn numbered(answer: bool, number: Number, s: &[u8]) -> Act
+fn numbered(answer: bool, number: Option<u64>, s: &[u8]) -> Result<Act, Mistake>
     ensures { result ≡ numbered answer number s.now }
 {
-    let Number::Is(n) = number else {
-        return Act::Wrong(4);
+    let Some(n) = number else {
+        return Err(Mistake::NoTry);
     };
     if (1 <= n) & (n <= 5) {
-        return happens_to(answer, n as u8, named_in(s));
-    }
-    Act::Wrong(4)
-}
-
-fn happens_to(answer: bool, attempt: u8, named: Named) -> Act
-    ensures { result ≡ happens_to answer attempt named }
-{
-    match named {
-        Named::Clear(fault) => Act::Happens {
+        let fault = named_in(s).ok_or(Mistake::NoFault)?;
+        return Ok(Act::Happens {
             answer,
-            attempt,
+            attempt: n as u8,
             fault,
-        },
-        Named::Unclear => Act::Wrong(5),
+        });
     }
+    Err(Mistake::NoTry)
 }
 
 // `lost`, or `byte PLACE becomes HH`.
-fn named_in(s: &[u8]) -> Named
+fn named_in(s: &[u8]) -> Option<Fault>
     ensures { result ≡ named_in s.now }
 {
     if is(s, b"lost") {
-        return Named::Clear(Fault::Lost);
+        return Some(Fault::Lost);
     }
     if is(word(s), b"byte") {
         return becomes_in(behind(s));
     }
-    Named::Unclear
+    None
 }
 
 // `PLACE becomes HH`.
-fn becomes_in(s: &[u8]) -> Named
+fn becomes_in(s: &[u8]) -> Option<Fault>
     ensures { result ≡ becomes_in s.now }
 {
     let rest = behind(s);
     if is(word(rest), b"becomes") {
         return replacing(figures::digits(word(s), 3), behind(rest));
     }
-    Named::Unclear
+    None
 }
 
-fn replacing(number: Number, s: &[u8]) -> Named
+fn replacing(number: Option<u64>, s: &[u8]) -> Option<Fault>
     ensures { result ≡ replacing number s.now }
 {
-    let Number::Is(place) = number else {
-        return Named::Unclear;
+    let Some(place) = number else {
+        return None;
     };
-    if s.len() != 2 {
-        return Named::Unclear;
+    let byte = byte_of(s)?;
+    if place < 1 {
+        return None;
     }
-    let high = digit(s[0]);
-    let low = digit(s[1]);
-    if (high < 16) & (low < 16) & (1 <= place) {
-        return Named::Clear(Fault::Becomes {
-            place: place as usize,
-            byte: high * 16 + low,
-        });
-    }
-    Named::Unclear
+    Some(Fault::Becomes {
+        place: place as usize,
+        byte,
+    })
+}
+
+// Two hexadecimal digits, and the byte that they say.
+fn byte_of(s: &[u8]) -> Option<u8>
+    ensures { result ≡ byte_of s.now }
+{
+    let [high, low] = s else {
+        return None;
+    };
+    let high = digit(*high)?;
+    let low = digit(*low)?;
+    Some(high * 16 + low)
 }
 
 // A code, and its data.
-fn coded(number: Number, s: &[u8], buf: &mut [u8]) -> Act
+fn coded(number: Option<u64>, s: &[u8], buf: &mut [u8]) -> Result<Act, Mistake>
     ensures value { result ≡ coded number s.now (length buf.old) }
     ensures buf_after { buf.new ≡ sets buf.old 0 (content_of result s.now) }
 {
-    let Number::Is(n) = number else {
-        return Act::Wrong(1);
+    let Some(n) = number else {
+        return Err(Mistake::NoCommand);
     };
     if (1 <= n) & (n <= 255) {
         return command_with(n as u8, s, buf);
     }
-    Act::Wrong(1)
+    Err(Mistake::NoCommand)
 }
 
 // The data is read twice: first for its form and its length, then into the buffer.
-fn command_with(code: u8, s: &[u8], buf: &mut [u8]) -> Act
+fn command_with(code: u8, s: &[u8], buf: &mut [u8]) -> Result<Act, Mistake>
     ensures value { result ≡ command_with code s.now (length buf.old) }
     ensures buf_after { buf.new ≡ sets buf.old 0 (content_of result s.now) }
 {
     let mut none = [0u8; 1];
     let read = unescape(s, &mut none);
-    let stand = read.stand;
-    if !is_plain(stand) {
-        return Act::Wrong(2);
+    if !is_plain(read.stand) {
+        return Err(Mistake::NoEscape);
     }
-    if least_size(MOST_CONTENT, buf.len()) < read.count {
-        return Act::Wrong(3);
+    if MOST_CONTENT.min(buf.len()) < read.count {
+        return Err(Mistake::TooLong);
     }
     unescape(s, buf);
-    Act::Command {
+    Ok(Act::Command {
         code,
         count: read.count,
-    }
+    })
 }

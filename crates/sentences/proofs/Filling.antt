@@ -1,7 +1,7 @@
 -- The loops over a sentence and over data: what is left to be put, put here, makes the whole.
 use Prim.Native.Nat.{ℕ, zero, suc, ◌+◌, ◌-◌, ◌/◌, ◌≤◌, ◌<◌, min}
 use mathlib.Core.Path.{◌≡◌, refl, sym, ap, ◌∙◌}
-use mathlib.Core.List.{List, [], ◌∷◌, ◌++◌}
+use mathlib.Core.List.{List, [], ◌++◌}
 use mathlib.Core.Bool.{Bool, true, false, cond, ◌||◌}
 use native.Mathlib.Numerals.{add-one}
 use native.Mathlib.Nat.{add-zero}
@@ -76,19 +76,13 @@ takes_one b {t} e = rw e (go (eqb b 0x23 || (eqb b 0x24 || eqb b 0x25)))
     go true = omega arith
     go false = omega arith
 
--- a number past the end is zero
-pub past_end : (l : List ℕ) (k : ℕ) → length l ≤ k → 0 ≡ get_or l k 0
-past_end [] k h = refl
-past_end (x ∷ l) zero h = absurd (omega arith)
-past_end (x ∷ l) (suc k) h = past_end l k (omega arith)
-
 -- the digits counted one by one
 pub width_one : (more n : ℕ) → n < 10 → width_of more n ≡ 1
 unfolding width_of
 width_one zero n h = refl
 width_one (suc more) n h = rw (lt-ltb n 10 h)
 
-pub width_next : (more n : ℕ) → 0 < more → 10 ≤ n → width_of more n ≡ 1 + width_of (more - 1) (n / 10)
+width_next : (more n : ℕ) → 0 < more → 10 ≤ n → width_of more n ≡ 1 + width_of (more - 1) (n / 10)
 unfolding width_of
 width_next zero n h g = absurd (omega arith)
 width_next (suc more) n h g =
@@ -98,3 +92,8 @@ width_next (suc more) n h g =
 pub width_none : (more n : ℕ) → more ≡ 0 → width_of more n ≡ 1
 unfolding width_of
 width_none more n e = rw e
+
+pub width_more : (count n : ℕ) → count < 20 → 10 ≤ n → count + width_of (20 - count) n ≡ count + 1 + width_of (20 - (count + 1)) (n / 10)
+width_more count n h g =
+    let less : 20 - count - 1 ≡ 20 - (count + 1) = omega arith in
+    omega (arith, width_next (20 - count) n (omega arith) g, ap (λ m. width_of m (n / 10)) less)

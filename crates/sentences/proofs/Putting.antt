@@ -1,7 +1,7 @@
 -- One text put behind another.
-use Prim.Native.Nat.{ℕ, ◌+◌, ◌≤◌, ◌<◌, min}
+use Prim.Native.Nat.{ℕ, ◌+◌, ◌≤◌, min}
 use mathlib.Core.Path.{◌≡◌, refl, sym, ap, ◌∙◌}
-use mathlib.Core.List.{List, [], ◌∷◌, ◌++◌}
+use mathlib.Core.List.{List, [], ◌++◌}
 use native.Mathlib.Decide.{dec_le}
 use native.Mathlib.Omega.{arith}
 use lib.ListN.{length, length-append}
@@ -46,6 +46,3 @@ put_then {l} {a} {m} {b} {n} {at} {p} {q} f g = record {
 -- the same text under another name
 pub put_as : {l t u m : List ℕ} {at p : ℕ} → Put l at t m p → t ≡ u → Put l at u m p
 put_as h e = rw e at h
-
-pub pair : {a b x y : ℕ} → a ≡ x → b ≡ y → a ∷ b ∷ [] ≡ x ∷ y ∷ []
-pair e f = cc

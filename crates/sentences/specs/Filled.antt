@@ -1,5 +1,5 @@
 -- Sentences with holes.
-use Rattle.std.specs.Prelude.{ℕ, Bool, cond, ◌||◌, ◌&&◌, List, [], ◌∷◌, ◌++◌, eqb, get_or, drop}
+use Rattle.std.specs.Prelude.{ℕ, cond, ◌||◌, List, [], ◌∷◌, ◌++◌, eqb, get_or, drop}
 use Rattle.text.specs.Parts.{within}
 use Rattle.sentences.specs.Figures.{decimal, leva, hex_two}
 

@@ -8,29 +8,18 @@ ghost use Rattle.sentences.specs.Put.{Put};
 ghost use Rattle.sentences.specs.Figures.{width_of, decimal, leva, hex_digit, hex_two};
 ghost use Rattle.sentences.specs.Filled.{shown, escaped, piece, takes, filled};
 
-use basics::least_size;
-
 // The first n bytes, or all where there are fewer.
 pub fn front(s: &[u8], n: usize) -> &[u8]
     ensures { result.now ≡ take n s.now }
 {
-    if s.len() <= n {
-        return s;
-    }
-    &s[..n]
+    s.get(..n).unwrap_or(s)
 }
 
 // The place n bytes further, or the end.
 fn further(at: usize, n: usize, end: usize) -> usize
     ensures { result ≡ min (at + n) end }
 {
-    if end <= at {
-        return end;
-    }
-    if end - at <= n {
-        return end;
-    }
-    at + n
+    at.saturating_add(n).min(end)
 }
 
 // Some bytes as they are.
@@ -46,17 +35,13 @@ fn width(n: u64) -> usize
     ensures { result ≡ width_of 19 n }
 {
     let mut left = n;
-    let mut count = 1;
-    let mut more: u8 = 19;
-    while 0 < more {
+    for count in 1..20 {
         if left < 10 {
             return count;
         }
         left /= 10;
-        count += 1;
-        more -= 1;
     }
-    count
+    20
 }
 
 // A field of so many digits.
@@ -97,10 +82,7 @@ fn hex_digit(n: u64) -> u8
 pub fn put_hex(buf: &mut [u8], at: usize, n: u64) -> usize
     ensures { Put buf.old at (hex_two n) buf.new result }
 {
-    let high = hex_digit(n / 16 % 16);
-    let low = hex_digit(n % 16);
-    let pair = [high, low];
-    put(buf, at, &pair)
+    put(buf, at, &[hex_digit(n / 16 % 16), hex_digit(n % 16)])
 }
 
 // A byte of data as a script writes it (SCRIPTS 4).
@@ -108,8 +90,7 @@ fn put_shown(buf: &mut [u8], at: usize, b: u8) -> usize
     ensures { Put buf.old at (shown b) buf.new result }
 {
     if (0x20 <= b) & (b <= 0x5B) | (0x5D <= b) & (b <= 0x7E) {
-        let letter = [b];
-        return put(buf, at, &letter);
+        return put(buf, at, &[b]);
     }
     let next = put(buf, at, b"\\x");
     put_hex(buf, next, b as u64)
@@ -119,11 +100,9 @@ fn put_shown(buf: &mut [u8], at: usize, b: u8) -> usize
 pub fn put_data(buf: &mut [u8], at: usize, bytes: &[u8]) -> usize
     ensures { Put buf.old at (escaped bytes.now) buf.new result }
 {
-    let mut place = least_size(at, buf.len());
-    let mut i = 0;
-    while i < bytes.len() {
-        place = put_shown(buf, place, bytes[i]);
-        i += 1;
+    let mut place = at.min(buf.len());
+    for &b in bytes {
+        place = put_shown(buf, place, b);
     }
     place
 }
@@ -132,22 +111,14 @@ pub fn put_data(buf: &mut [u8], at: usize, bytes: &[u8]) -> usize
 fn figure(figures: &[u64], k: usize) -> u64
     ensures { result ≡ get_or figures.now k 0 }
 {
-    if k < figures.len() {
-        return figures[k];
-    }
-    0
+    figures.get(k).copied().unwrap_or(0)
 }
 
 // Whether a byte is a hole for a number: 1, or 0.
 fn takes(b: u8) -> usize
     ensures { result ≡ takes b }
 {
-    match b {
-        b'#' => 1,
-        b'$' => 1,
-        b'%' => 1,
-        _ => 0,
-    }
+    usize::from(matches!(b, b'#' | b'$' | b'%'))
 }
 
 // What one byte of a sentence stands for.
@@ -161,10 +132,7 @@ fn put_piece(buf: &mut [u8], at: usize, b: u8, word: &[u8], n: u64) -> usize
         b'~' => put(buf, at, word),
         b'^' => put_data(buf, at, word),
         b'|' => put(buf, at, b"\n"),
-        _ => {
-            let letter = [b];
-            put(buf, at, &letter)
-        }
+        _ => put(buf, at, &[b]),
     }
 }
 
@@ -173,14 +141,11 @@ fn put_piece(buf: &mut [u8], at: usize, b: u8, word: &[u8], n: u64) -> usize
 pub fn fill(buf: &mut [u8], at: usize, sentence: &[u8], word: &[u8], figures: &[u64]) -> usize
     ensures { Put buf.old at (filled sentence.now word.now figures.now) buf.new result }
 {
-    let mut place = least_size(at, buf.len());
+    let mut place = at.min(buf.len());
     let mut next = 0;
-    let mut i = 0;
-    while i < sentence.len() {
-        let b = sentence[i];
+    for &b in sentence {
         place = put_piece(buf, place, b, word, figure(figures, next));
         next += takes(b);
-        i += 1;
     }
     place
 }

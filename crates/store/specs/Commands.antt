@@ -1,9 +1,8 @@
 -- PROTOCOL chapter 5: a command on what a device remembers: what the sheet says to it, its rule, and what it leaves.
-use Rattle.std.specs.Prelude.{ℕ}
+use Rattle.std.specs.Prelude.{ℕ, Option}
 use Rattle.kinds.specs.declared.Command.{Command}
 use Rattle.sheet.specs.Searches.{place_of, match_of}
 use Rattle.sheet.specs.Notes.{noted}
-use Rattle.sheet.specs.declared.Match.{Match}
 use Rattle.rules.specs.Rules.{Rule, rule_of}
 use Rattle.rules.specs.Searches.{search_for}
 use Rattle.rules.specs.Views.{view_of}
@@ -16,7 +15,7 @@ use Rattle.store.specs.Store.{Store}
 abbrev pub place_for : Store → View → ℕ
 place_for s v = place_of s.sheet (search_for s.books v)
 
-abbrev pub match_for : Store → View → Match
+abbrev pub match_for : Store → View → Option ℕ
 match_for s v = match_of s.sheet (search_for s.books v)
 
 -- PROTOCOL chapter 5: the rule of a command, and what comes of it

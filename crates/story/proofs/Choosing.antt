@@ -1,11 +1,11 @@
 -- What is told, by what a test or a call chooses.
+use Rattle.std.specs.Prelude.{Option}
 use Prim.Native.Nat.{ℕ, ◌-◌}
 use mathlib.Core.Path.{◌≡◌, sym, ap, ◌∙◌}
 use mathlib.Core.Bool.{Bool, true, false, cond}
 use mathlib.Core.List.{List, [], ◌++◌}
 use lib.ListN.{length, take, get_or}
 use borrow.Author.Tests.{eq-eqb, ne_eqb}
-use Rattle.display.specs.declared.Display.{Display}
 use Rattle.line.specs.declared.Call.{Call}
 use Rattle.reasons.specs.declared.Reason.{Reason}
 use Rattle.reader.specs.Fields.{place_of}
@@ -33,7 +33,7 @@ module _ (html : Bool) (trail : Trail) (shadow : List ℕ) where
   ends_cut e = sym (ap (λ b. cond b cut outside) e)
 
 -- a call
-module _ (html : Bool) (number : ℕ) (reason : Reason) (given : List ℕ) (shows : Display) (display : List ℕ) where
+module _ (html : Bool) (number : ℕ) (reason : Reason) (given : List ℕ) (shows : Option ℕ) (display : List ℕ) where
   pub told_by_lem : (trail : Trail) (shadow : List ℕ) (byte : ℕ) {call known : Call} → call ≡ known
       → told_text html trail shadow byte known number reason given shows display ≡ told_text html trail shadow byte call number reason given shows display
   told_by_lem trail shadow byte e = sym (ap (λ k. told_text html trail shadow byte k number reason given shows display) e)

@@ -5,7 +5,6 @@
 ghost use Rattle.sentences.specs.Put.{Put};
 ghost use Rattle.story.specs.Story.{part_text, broken_text, repeated_text, order_text, told_text, call_text, ends_text};
 
-use display::Display;
 use items::{Four, Kind};
 use line::Call;
 use pages::put_end;
@@ -26,7 +25,7 @@ pub fn put_call(
     number: u64,
     reason: Reason,
     given: &[u8],
-    shows: Display,
+    shows: Option<usize>,
     display: &[u8],
 ) -> usize
     ensures { Put buf.old at (call_text html trail shadow.now taken.now call number reason given.now shows display.now) buf.new result }
@@ -55,7 +54,7 @@ fn put_told(
     number: u64,
     reason: Reason,
     given: &[u8],
-    shows: Display,
+    shows: Option<usize>,
     display: &[u8],
 ) -> usize
     ensures { Put buf.old at (told_text html trail shadow.now byte call number reason given.now shows display.now) buf.new result }
@@ -64,11 +63,7 @@ fn put_told(
         Call::Quiet => put(buf, at, b""),
         Call::Nak => put_broken(buf, at, html, trail, shadow, byte, number),
         Call::Again => put_repeated(buf, at, html, trail, shadow, byte, number, given),
-        Call::Order {
-            seq: _,
-            code: _,
-            count,
-        } => put_order(
+        Call::Order { count, .. } => put_order(
             buf, at, html, trail, shadow, byte, count, number, reason, given, shows, display,
         ),
     }
@@ -86,7 +81,7 @@ fn put_order(
     number: u64,
     reason: Reason,
     given: &[u8],
-    shows: Display,
+    shows: Option<usize>,
     display: &[u8],
 ) -> usize
     ensures { Put buf.old at (order_text html trail shadow.now byte count number reason given.now shows display.now) buf.new result }

@@ -1,29 +1,26 @@
 -- Laws of a stretch of bytes: a turn of the loop that takes it byte by byte, and a whole command at its front.
 use mathlib.Core.Path.{◌≡◌, refl, sym, ap, ◌∙◌, subst}
-use mathlib.Core.Bool.{Bool, true, false, cond, not}
+use mathlib.Core.Bool.{Bool, true, false, cond}
 use mathlib.Core.List.{List, [], ◌∷◌, ◌++◌, append_assoc}
 use Prim.Native.Nat.{ℕ, suc, ◌+◌, ◌-◌, ◌%◌, ◌≤◌, ◌<◌}
-use native.Mathlib.Numerals.{add-one}
 use native.Mathlib.Omega.{arith}
-use lib.ListN.{length, get_or, take, drop, length-append, length-drop, drop_of_length-le, take-append-drop}
-use lib.Seq.{drop-cons, take-add, take_all, take_at, drop-drop, length-take-le, sets}
-use borrow.Author.Tests.{not-true, not-false, ne_eqb, eqb-false}
+use lib.ListN.{length, get_or, take, drop, length-append, length-drop, take-append-drop}
+use lib.Seq.{take-add, take_at, drop-drop, length-take-le, sets}
+use borrow.Author.Tests.{eqb-false}
 use lib.Dec.{eqb}
 use Rattle.text.proofs.Laws.{sets_over}
 use Rattle.wire.specs.Bytes.{may_stand, every}
-use Rattle.wire.specs.Frame.{Message, total, bcc, counted, frame}
+use Rattle.wire.specs.Frame.{Message, total, bcc, counted}
 use Rattle.wire.specs.declared.Way.{Way}
 use Rattle.wire.specs.declared.Way.TheVariants.{ToDevice}
 use Rattle.wire.specs.declared.Role.TheVariants.{Data}
 use Rattle.wire.proofs.Building.{bcc_mod}
 use Rattle.reader.specs.Reading.{Place, outside, inside, Read, Event, nothing, broken_frame, heard, starts_anew, read, Run, run}
-use Rattle.reader.specs.Fields.{place_of, reader_of, kept_in, heard_of, is_silent, taken_of}
+use Rattle.reader.specs.Fields.{reader_of, kept_in, heard_of, is_silent}
 use Rattle.stretches.specs.Private.{Heads, Leads, before_start, closing, leading}
 use Rattle.stretches.specs.Stretches.{Stretched, further, stretched}
-use Rattle.reader.specs.declared.Heard.TheVariants.{Nothing, Whole}
+use Rattle.reader.specs.declared.Heard.TheVariants.{Whole}
 use Rattle.reader.specs.declared.Reader.{Reader}
-use Rattle.stretches.specs.declared.Stretch.{Stretch}
-use Rattle.reader.specs.declared.Taken.{Taken}
 use Rattle.reader.proofs.Steps.{read_start, read_other_lem, place_out, Ways, starts_anew_lem, is_skipped, breaks, goes_on_lem, ends, ways}
 use Rattle.reader.proofs.Running.{bytes_of, place_back}
 use Rattle.reader.proofs.Holding.{Underway, underway_few, underway_read}
@@ -44,56 +41,6 @@ both_further i j n e s =
 pub record Head (k : Way) (first : Reader) (array₀ bytes array : List ℕ) (reader : Reader) (i : ℕ) : Type 0 where
   pub within : i ≤ length bytes
   pub goes : stretched k first array₀ bytes ≡ further i (stretched k reader array (drop i bytes))
-
-pub head_start : (k : Way) (reader : Reader) (array bytes : List ℕ) → Head k reader array bytes array reader 0
-head_start k reader array bytes = record { within = omega arith; goes = none_further (stretched k reader array bytes) }
-
-module _ (k : Way) (first : Reader) (array₀ bytes array : List ℕ) (reader : Reader) (i : ℕ) (h : Head k first array₀ bytes array reader i) where
-  -- a step, by whether it brought nothing
-  abbrev stepped : Bool → Taken → (kept rest : List ℕ) → Stretched
-  stepped silent t kept rest =
-      cond silent (further 1 (stretched k t.reader kept rest)) (record { stretch = record { reader = t.reader; heard = t.heard; taken = 1 }; array = kept })
-
-  module _ (more : i < length bytes) (t : Taken) (kept : List ℕ) (et : t ≡ taken_of (read k (place_of reader array) (get_or bytes i 0)))
-      (ek : kept ≡ kept_in array (read k (place_of reader array) (get_or bytes i 0)).place) (silent : Bool) (es : silent ≡ is_silent t.heard) where
-    opened : stretched k first array₀ bytes ≡ further i (stepped silent t kept (drop (suc i) bytes))
-    opened =
-        h.goes ∙ ap (λ z. further i (stretched k reader array z)) (drop-cons bytes i 0 more)
-        ∙ ap (λ (z : Taken). further i (stepped (is_silent z.heard) z (kept_in array (read k (place_of reader array) (get_or bytes i 0)).place) (drop (suc i) bytes))) (sym et)
-        ∙ ap (λ z. further i (stepped (is_silent t.heard) t z (drop (suc i) bytes))) (sym ek)
-        ∙ ap (λ z. further i (stepped z t kept (drop (suc i) bytes))) (sym es)
-
-    pub head_silent : not silent ≡ false → Head k first array₀ bytes kept t.reader (i + 1)
-    head_silent e =
-        record {
-          within = omega arith;
-          goes =
-              opened ∙ ap (λ z. further i (stepped z t kept (drop (suc i) bytes))) (not-false silent e)
-              ∙ both_further i 1 (i + 1) refl (stretched k t.reader kept (drop (suc i) bytes))
-              ∙ ap (λ n. further (i + 1) (stretched k t.reader kept (drop n bytes))) (sym (add-one i));
-        }
-
-    pub head_brings : not silent ≡ true → record { stretch = record { reader = t.reader; heard = t.heard; taken = i + 1 }; array = kept } ≡ stretched k first array₀ bytes
-    head_brings e = sym (opened ∙ ap (λ z. further i (stepped z t kept (drop (suc i) bytes))) (not-true silent e))
-
-  pub head_done : length bytes ≤ i → record { stretch = record { reader = reader; heard = Nothing; taken = i }; array = array } ≡ stretched k first array₀ bytes
-  head_done done =
-      let n : i + 0 ≡ i = omega arith in
-      sym (
-      h.goes ∙ ap (λ z. further i (stretched k reader array z)) (drop_of_length-le bytes done)
-      ∙ ap (λ z. record { stretch = record { reader = reader; heard = Nothing; taken = z }; array = array }) n)
-
--- 05h, BCC and 03h, byte by byte
-pub six_are : (six : List ℕ) (a b c d : ℕ) → length six ≡ 6 → get_or six 0 0 ≡ 0x05 → get_or six 1 0 ≡ a → get_or six 2 0 ≡ b → get_or six 3 0 ≡ c → get_or six 4 0 ≡ d
-    → get_or six 5 0 ≡ 0x03 → six ≡ 0x05 ∷ a ∷ b ∷ c ∷ d ∷ 0x03 ∷ []
-six_are [] a b c d n e0 e1 e2 e3 e4 e5 = absurd (omega arith)
-six_are (v ∷ []) a b c d n e0 e1 e2 e3 e4 e5 = absurd (omega arith)
-six_are (v ∷ w ∷ []) a b c d n e0 e1 e2 e3 e4 e5 = absurd (omega arith)
-six_are (v ∷ w ∷ x ∷ []) a b c d n e0 e1 e2 e3 e4 e5 = absurd (omega arith)
-six_are (v ∷ w ∷ x ∷ y ∷ []) a b c d n e0 e1 e2 e3 e4 e5 = absurd (omega arith)
-six_are (v ∷ w ∷ x ∷ y ∷ z ∷ []) a b c d n e0 e1 e2 e3 e4 e5 = absurd (omega arith)
-six_are (v ∷ w ∷ x ∷ y ∷ z ∷ u ∷ []) a b c d n e0 e1 e2 e3 e4 e5 = λ i. e0 i ∷ e1 i ∷ e2 i ∷ e3 i ∷ e4 i ∷ e5 i ∷ []
-six_are (v ∷ w ∷ x ∷ y ∷ z ∷ u ∷ t ∷ l) a b c d n e0 e1 e2 e3 e4 e5 = absurd (omega arith)
 
 -- a whole command at the front, from what the code asks of its bytes
 leads_behind : (n added : ℕ) (start l s c : ℕ) (rest : List ℕ) → n ≤ 200 → n + 10 ≤ length (start ∷ l ∷ s ∷ c ∷ rest) → Heads n (start ∷ l ∷ s ∷ c ∷ rest)
@@ -258,30 +205,18 @@ module _ (k : Way) (array : List ℕ) where
       go : (start : Bool) → eqb b 0x01 ≡ start
           → stretched k (reader_of outside) array bs ≡ further (before_start bs) (stretched k (reader_of outside) array (drop (before_start bs) bs))
           → stretched k (reader_of outside) array (b ∷ bs)
-          ≡ further (cond start 0 (1 + before_start bs)) (stretched k (reader_of outside) array (drop (cond start 0 (1 + before_start bs)) (b ∷ bs)))
+          ≡ further (cond start 0 (suc (before_start bs))) (stretched k (reader_of outside) array (drop (cond start 0 (suc (before_start bs))) (b ∷ bs)))
       go true e rest = none_further (stretched k (reader_of outside) array (b ∷ bs))
       go false e rest =
           let one : 1 + before_start bs ≡ suc (before_start bs) = omega arith in
           ap (λ z. heard_as k z array bs) (read_other_lem k outside b (eqb-false b 0x01 e))
           ∙ ap (further 1) rest
-          ∙ both_further 1 (before_start bs) (1 + before_start bs) refl (stretched k (reader_of outside) array (drop (before_start bs) bs))
-          ∙ ap (λ j. further (1 + before_start bs) (stretched k (reader_of outside) array (drop j (b ∷ bs)))) (sym one)
+          ∙ both_further 1 (before_start bs) (suc (before_start bs)) one (stretched k (reader_of outside) array (drop (before_start bs) bs))
 
   -- whatever the other fields of a reader that is outside
   outer : (r : Reader) (bytes : List ℕ) → r.inside ≡ false → 0 < length bytes → stretched k r array bytes ≡ stretched k (reader_of outside) array bytes
   outer r [] out some = absurd (omega arith)
   outer r (b ∷ bs) out some = ap (λ p. heard_as k (read k p b) array bs) (place_out r array out)
-
--- a turn of the search for it
-module _ (bytes : List ℕ) (i : ℕ) (more : i < length bytes) where
-  pub before_here : get_or bytes i 0 ≡ 0x01 → before_start (drop i bytes) ≡ 0
-  before_here e = rw (drop-cons bytes i 0 more, e)
-
-  pub before_further : (get_or bytes i 0 ≡ 0x01 → ⊥) → before_start (drop i bytes) ≡ 1 + before_start (drop (i + 1) bytes)
-  before_further e = rw (add-one, drop-cons bytes i 0 more, ne_eqb (get_or bytes i 0) 0x01 e)
-
-pub to_end : (l : List ℕ) (i : ℕ) → take (length l - i) (drop i l) ≡ drop i l
-to_end l i = take_all (length l - i) (drop i l) (omega (arith, length-drop i l))
 
 -- the stretch of a whole command that comes next
 pub next_at_once : (n start : ℕ) (bytes array rest : List ℕ) (r : Reader) → r.inside ≡ false → start ≡ before_start bytes → rest ≡ drop start bytes → Leads n rest

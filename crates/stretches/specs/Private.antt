@@ -1,5 +1,6 @@
 -- What the private functions ask of each other. No promise to a caller rests on it.
-use Rattle.std.specs.Prelude.{ℕ, ◌+◌, ◌≤◌, ◌≡◌, true, cond, List, [], ◌∷◌, ◌++◌, eqb, length, get_or, take, drop}
+use Rattle.std.specs.Prelude.{ℕ, ◌+◌, ◌≤◌, ◌≡◌, true, List, [], ◌∷◌, ◌++◌, length, get_or, take, drop}
+use Rattle.text.specs.Parts.{first_at}
 use Rattle.wire.specs.Bytes.{may_stand}
 use Rattle.wire.specs.Frame.{Message, command_of, bcc, frame, sendable}
 use Rattle.wire.specs.declared.Way.TheVariants.{ToDevice}
@@ -7,11 +8,11 @@ use Rattle.wire.specs.declared.Role.TheVariants.{Name}
 
 -- how many bytes stand before the first 01h
 abbrev pub before_start : List ℕ → ℕ
-before_start [] = 0
-before_start (b ∷ bs) = cond (eqb b 0x01) 0 (1 + before_start bs)
+before_start bytes = first_at 0x01 bytes
 
 -- 01h, the LEN of n data bytes, SEQ and CMD stand at the front
 pub record Heads (n : ℕ) (bytes : List ℕ) : Type 0 where
+  pub small : n ≤ 200
   pub start : get_or bytes 0 0 ≡ 0x01
   pub len : get_or bytes 1 0 ≡ n + 0x24
   pub seq : may_stand Name (get_or bytes 2 0) ≡ true

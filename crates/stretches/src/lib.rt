@@ -1,11 +1,10 @@
 // Reading a stretch of bytes at once (DECISIONS 54, 64).
 #![tactic(auto)]
 
-ghost use Rattle.std.specs.Prelude.{◌≡◌, true, ◌≤◌, length};
+ghost use Rattle.std.specs.Prelude.{◌≡◌, true, IfSome};
 ghost use Rattle.wire.specs.declared.Way.TheVariants.{ToDevice};
 ghost use Rattle.stretches.specs.Stretches.{stretched};
-ghost use Rattle.reader.specs.Fields.{is_silent};
-ghost use Rattle.stretches.specs.Private.{Heads, Leads, before_start, closing};
+ghost use Rattle.stretches.specs.Private.{Heads, Leads, closing};
 
 use reader::{FRAME_ROOM, Heard, Reader};
 use wire::{LEAST_LEN, MOST_DATA, Role, Way, build, suit};
@@ -26,21 +25,17 @@ pub fn take_stretch(reader: Reader, array: &mut [u8; FRAME_ROOM], bytes: &[u8]) 
     if reader.inside {
         return take_each(Way::ToDevice, reader, array, bytes);
     }
-    let start = before_start(bytes);
-    let rest = &bytes[start..bytes.len()];
-    let n = announced(rest);
-    if !leads(n, rest) {
+    let start = text::find(bytes, 0x01);
+    let rest = &bytes[start..];
+    let Some(n) = leads(rest) else {
         return take_each(Way::ToDevice, reader, array, bytes);
-    }
-    let seq = rest[2];
-    let code = rest[3];
-    let end = n + 9;
-    text::put_bytes(array, 0, &rest[1..end]);
+    };
+    text::put_bytes(array, 0, &rest[1..n + 9]);
     Stretch {
         reader: reader::fresh(),
         heard: Heard::Whole {
-            seq,
-            code,
+            seq: rest[2],
+            code: rest[3],
             count: n,
         },
         taken: start + n + 10,
@@ -52,130 +47,56 @@ fn take_each(way: Way, reader: Reader, array: &mut [u8; FRAME_ROOM], bytes: &[u8
     ensures { record { stretch = result; array = array.new } ≡ stretched way reader array.old bytes.now }
 {
     let mut at = reader;
-    let mut i = 0;
-    while i < bytes.len() {
-        let step = reader::take_byte(way, at, array, bytes[i]);
-        let next = step.reader;
-        let heard = step.heard;
-        at = next;
-        i += 1;
-        if !is_silent(heard) {
+    for (i, b) in bytes.iter().enumerate() {
+        let step = reader::take_byte(way, at, array, *b);
+        at = step.reader;
+        if step.heard != Heard::Nothing {
             return Stretch {
                 reader: at,
-                heard,
-                taken: i,
+                heard: step.heard,
+                taken: i + 1,
             };
         }
     }
     Stretch {
         reader: at,
         heard: Heard::Nothing,
-        taken: i,
+        taken: bytes.len(),
     }
 }
 
-fn is_silent(heard: Heard) -> bool
-    ensures { result ≡ is_silent heard }
+// How many data bytes the command has whose whole frame stands at the front.
+fn leads(bytes: &[u8]) -> Option<usize>
+    ensures { IfSome result (λ n. Leads n bytes.now) }
 {
-    match heard {
-        Heard::Nothing => true,
-        Heard::Broken => false,
-        Heard::Whole {
-            seq: _,
-            code: _,
-            count: _,
-        } => false,
-    }
-}
-
-// How many bytes stand before the first 01h.
-fn before_start(bytes: &[u8]) -> usize
-    ensures value { result ≡ before_start bytes.now }
-    ensures upper_bound { result ≤ length bytes.now }
-{
-    let mut i = 0;
-    while i < bytes.len() {
-        if bytes[i] == 0x01 {
-            return i;
-        }
-        i += 1;
-    }
-    i
-}
-
-// How many data bytes the second byte announces; 0 where it can't be LEN.
-fn announced(bytes: &[u8]) -> usize
-    ensures { result ≤ 200 }
-{
-    if bytes.len() < 2 {
-        return 0;
-    }
-    let n = suit::data_count(Way::ToDevice, bytes[1]);
-    if MOST_DATA < n {
-        return 0;
-    }
-    n
-}
-
-// Whether the whole frame of a command with n data bytes stands at the front.
-fn leads(n: usize, bytes: &[u8]) -> bool
-    requires { n ≤ 200 }
-    ensures { result ≡ true → Leads n bytes.now }
-{
+    let n = heads(bytes)?;
     if bytes.len() < n + 10 {
-        return false;
-    }
-    if !heads(n, bytes) {
-        return false;
+        return None;
     }
     let five = n + 4;
-    if !suit::all_may_stand(Role::Data, &bytes[4..five]) {
-        return false;
-    }
-    let sum = build::sum_of(&bytes[1..five + 1]);
-    closes(sum, &bytes[five..five + 6])
+    let stands = suit::all_may_stand(Role::Data, &bytes[4..five])
+        && closes(build::sum_of(&bytes[1..five + 1]), &bytes[five..five + 6]);
+    stands.then_some(n)
 }
 
-// 01h, LEN, SEQ and CMD.
-fn heads(n: usize, bytes: &[u8]) -> bool
-    requires { n ≤ 200 }
-    ensures { result ≡ true → Heads n bytes.now }
+// 01h, LEN, SEQ and CMD at the front: how many data bytes LEN announces.
+fn heads(bytes: &[u8]) -> Option<usize>
+    ensures { IfSome result (λ n. Heads n bytes.now) }
 {
-    if bytes.len() < 4 {
-        return false;
-    }
-    if bytes[0] != 0x01 {
-        return false;
-    }
-    if bytes[1] as usize != n + LEAST_LEN {
-        return false;
-    }
-    if !suit::may_stand(Role::Name, bytes[2]) {
-        return false;
-    }
-    suit::may_stand(Role::Name, bytes[3])
+    let [0x01, len, seq, code, ..] = bytes else {
+        return None;
+    };
+    let n = (*len as usize).checked_sub(LEAST_LEN)?;
+    let suits = n <= MOST_DATA
+        && suit::may_stand(Role::Name, *seq)
+        && suit::may_stand(Role::Name, *code);
+    suits.then_some(n)
 }
 
 // 05h, BCC and 03h.
 fn closes(sum: u16, six: &[u8]) -> bool
-    requires { length six.now ≡ 6 }
     ensures { result ≡ true → six.now ≡ closing sum }
 {
-    let quad = suit::bcc_bytes(sum);
-    if six[0] != 0x05 {
-        return false;
-    }
-    if six[1] != quad[0] {
-        return false;
-    }
-    if six[2] != quad[1] {
-        return false;
-    }
-    if six[3] != quad[2] {
-        return false;
-    }
-    if six[4] != quad[3] {
-        return false;
-    }
-    six[5] == 0x03
+    let [a, b, c, d] = suit::bcc_bytes(sum);
+    six == [0x05, a, b, c, d, 0x03].as_slice()
 }

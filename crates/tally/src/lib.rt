@@ -30,43 +30,38 @@ pub fn none() -> Tally
 pub fn one_more(n: u64) -> u64
     ensures { result ≡ min (n + 1) most }
 {
-    if n == 0xFFFFFFFFFFFFFFFF {
-        return n;
-    }
-    n + 1
+    n.saturating_add(1)
 }
 
 // A command that ended with a word of the till end: any other than Answered and Unfinished says that it was not sent.
 pub fn ended(tally: Tally, word: Word) -> Tally
     ensures { result ≡ ended_by tally word }
 {
-    let mut after = tally;
     match word {
-        Word::Answered(_) => after.answered = one_more(tally.answered),
-        Word::Unfinished(_) => after.unfinished = one_more(tally.unfinished),
-        Word::Idle => after.unsent = one_more(tally.unsent),
-        Word::Waiting(_) => after.unsent = one_more(tally.unsent),
-        Word::SendAgain(_) => after.unsent = one_more(tally.unsent),
-        Word::TooShort => after.unsent = one_more(tally.unsent),
-        Word::NotSent => after.unsent = one_more(tally.unsent),
+        Word::Answered(_) => Tally {
+            answered: one_more(tally.answered),
+            ..tally
+        },
+        Word::Unfinished(_) => Tally {
+            unfinished: one_more(tally.unfinished),
+            ..tally
+        },
+        _ => Tally {
+            unsent: one_more(tally.unsent),
+            ..tally
+        },
     }
-    after
 }
 
 // What the device was asked for: an order is carried out.
 pub fn called(tally: Tally, call: Call) -> Tally
     ensures { result ≡ called_by tally call }
 {
-    let mut after = tally;
-    match call {
-        Call::Quiet => {}
-        Call::Nak => {}
-        Call::Again => {}
-        Call::Order {
-            seq: _,
-            code: _,
-            count: _,
-        } => after.carried = one_more(tally.carried),
+    let Call::Order { .. } = call else {
+        return tally;
+    };
+    Tally {
+        carried: one_more(tally.carried),
+        ..tally
     }
-    after
 }

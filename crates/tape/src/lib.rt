@@ -7,7 +7,6 @@ ghost use Rattle.std.proofs.lemmas.List.Edits.{sets};
 ghost use Rattle.machine.specs.Hearing.{carried_by};
 ghost use Rattle.tape.specs.Noting.{listing, place_after, noted_down, start_of};
 
-use basics::least_size;
 use line::{Call, MOST_HELD};
 use machine::{Device, Hearing};
 use reader::FRAME_ROOM;
@@ -50,7 +49,7 @@ pub fn note_down(
     let given = heard.given;
     let call = heard.call;
     let device = given.device;
-    let count = least_size(given.count, buf.len());
+    let count = given.count.min(buf.len());
     let listed = list_call(call, frame, orders, run.listed);
     let written = append(out, run.given, &buf[0..count]);
     let place = place_after(run.place, heard.taken, total);
@@ -95,21 +94,16 @@ fn append(out: &mut [u8], at: usize, src: &[u8]) -> usize
 }
 
 // A command carried out, listed behind the others.
-fn list_call(call: Call, frame: &[u8], orders: &mut [u8], at: usize) -> usize
-    requires { length frame.now ≡ 256 }
+fn list_call(call: Call, frame: &[u8; FRAME_ROOM], orders: &mut [u8], at: usize) -> usize
     ensures value { result ≡ min (at + length (listing (carried_by call frame.now))) (length orders.old) }
     ensures orders_after { orders.new ≡ sets orders.old at (listing (carried_by call frame.now)) }
 {
-    match call {
-        Call::Quiet => least_size(at, orders.len()),
-        Call::Nak => least_size(at, orders.len()),
-        Call::Again => least_size(at, orders.len()),
-        Call::Order { seq, code, count } => {
-            let n = least_size(count, MOST_HELD);
-            let end = n + 3;
-            let head = [seq, code, (n % 256) as u8];
-            let behind = append(orders, at, &head);
-            append(orders, behind, &frame[3..end])
-        }
-    }
+    let Call::Order { seq, code, count } = call else {
+        return at.min(orders.len());
+    };
+    let n = count.min(MOST_HELD);
+    let end = n + 3;
+    let head = [seq, code, (n % 256) as u8];
+    let behind = append(orders, at, &head);
+    append(orders, behind, &frame[3..end])
 }

@@ -1,7 +1,5 @@
 -- SCRIPTS 7, 8: what is told of a command, of a try on its way, and of what the device makes of it.
-use Rattle.std.specs.Prelude.{ℕ, Bool, true, false, cond, List, [], ◌∷◌, ◌++◌, eqb, take}
-use Rattle.display.specs.declared.Display.{Display}
-use Rattle.display.specs.declared.Display.TheVariants.{Stays, Shows}
+use Rattle.std.specs.Prelude.{ℕ, Bool, cond, List, [], ◌∷◌, ◌++◌, eqb, take, Option, Some, None}
 use Rattle.faults.specs.declared.Fault.{Fault}
 use Rattle.faults.specs.declared.Fault.TheVariants as faults
 use Rattle.line.specs.declared.Call.{Call}
@@ -42,6 +40,6 @@ call_text Again number taken reason = filled repeated [] (taken ∷ [])
 call_text (Order seq code count) number taken reason = done_text number reason
 
 -- PROTOCOL 5.17: the text at the front of the display's buffer, where one is shown
-abbrev pub shows_text : Display → (display : List ℕ) → List ℕ
-shows_text Stays display = []
-shows_text (Shows n) display = filled displays (take n display) []
+abbrev pub shows_text : Option ℕ → (display : List ℕ) → List ℕ
+shows_text None display = []
+shows_text (Some n) display = filled displays (take n display) []

@@ -1,26 +1,14 @@
--- Laws of cutting a list at the first byte of a kind, and of its first byte.
+-- Laws of cutting a list at the first byte of a kind, of its first byte, and of a test of each.
 use mathlib.Core.Path.{◌≡◌, refl, sym, ap, ◌∙◌}
-use mathlib.Core.Bool.{Bool, true, false, cond, false≢true}
+use mathlib.Core.Bool.{Bool, true, false, cond, false≢true, ◌&&◌}
 use mathlib.Core.List.{List, [], ◌∷◌}
-use Prim.Native.Nat.{ℕ, zero, suc, ◌+◌, ◌-◌, ◌≤◌, ◌<◌}
-use native.Mathlib.Numerals.{add-one}
+use Prim.Native.Nat.{ℕ, zero, suc, ◌-◌, ◌≤◌}
 use native.Mathlib.Omega.{arith}
 use lib.Dec.{eqb}
-use lib.ListN.{length, get_or, take, drop, length-drop, drop_of_length-le}
-use lib.Seq.{drop-cons, length-take-le, take_all, take-nil}
-use borrow.Author.Tests.{eq-eqb, ne_eqb}
-use Rattle.text.specs.Parts.{first_at, begins}
-
--- what is still to be passed from i on
-module _ (b : ℕ) (xs : List ℕ) (i : ℕ) where
-  pub place_turn : i < length xs → (get_or xs i 0 ≡ b → ⊥) → i + first_at b (drop i xs) ≡ i + 1 + first_at b (drop (i + 1) xs)
-  place_turn h e = rw (add-one, drop-cons xs i 0, ne_eqb (get_or xs i 0) b e) (omega arith)
-
-  pub place_found : i < length xs → get_or xs i 0 ≡ b → i + first_at b (drop i xs) ≡ i
-  place_found h e = rw (drop-cons xs i 0, eq-eqb (get_or xs i 0) b e) (omega arith)
-
-  pub place_done : length xs ≤ i → i + first_at b (drop i xs) ≡ i
-  place_done h = rw (drop_of_length-le xs h) (omega arith)
+use lib.ListN.{length, take, drop, length-drop}
+use lib.Seq.{length-take-le, take_all, take-nil}
+use Rattle.std.specs.List.{list_all}
+use Rattle.text.specs.Parts.{first_at, begins, every}
 
 pub place_within : (b : ℕ) (xs : List ℕ) → first_at b xs ≤ length xs
 place_within b [] = omega arith
@@ -47,14 +35,11 @@ drop-take (suc m) (suc n) (x ∷ xs) =
     drop-take m n xs ∙ ap (λ k. take k (drop m xs)) (sym less)
 
 -- the first byte
-pub begins_none : (b : ℕ) (xs : List ℕ) → length xs ≡ 0 → false ≡ begins b xs
-begins_none b [] h = refl
-begins_none b (x ∷ xs) h = absurd (omega arith)
-
-pub begins_first : (b : ℕ) (xs : List ℕ) → (length xs ≡ 0 → ⊥) → eqb (get_or xs 0 0) b ≡ begins b xs
-begins_first b [] h = absurd (h refl)
-begins_first b (x ∷ xs) h = refl
-
 pub begins_some : (b : ℕ) (xs : List ℕ) → true ≡ begins b xs → 1 ≤ length xs
 begins_some b [] h = absurd (false≢true (sym h))
 begins_some b (x ∷ xs) h = omega arith
+
+-- a test of each byte, as the library says it
+pub all_every : (test : ℕ → Bool) (xs : List ℕ) → list_all test xs ≡ every test xs
+all_every test [] = refl
+all_every test (x ∷ xs) = ap (λ rest. test x && rest) (all_every test xs)

@@ -1,14 +1,16 @@
 -- The digit writer: four digits a division.
 use mathlib.Core.Path.{◌≡◌, refl, sym, ap, ◌∙◌}
 use mathlib.Core.List.{List, [], ◌∷◌, ◌++◌, append_assoc, append-nil}
-use Prim.Native.Nat.{ℕ, zero, suc, ◌+◌, ◌-◌, ◌*◌, ◌/◌, ◌%◌, ◌^◌, ◌≤◌, ◌<◌}
+use Prim.Native.Nat.{ℕ, zero, suc, ◌+◌, ◌-◌, ◌*◌, ◌/◌, ◌%◌, ◌^◌, ◌≤◌, ◌<◌, min}
 use native.Mathlib.Nat.{add-zero, zero-add, add-suc, div-one, pow-zero, pow-suc, one-le-pow, mul_comm, div-div-eq-div-mul}
 use native.Mathlib.Omega.{arith}
 use lib.Arith.{mod-mul}
-use lib.ListN.{length, set}
+use lib.ListN.{length, set, take, drop, length-drop}
+use Rattle.std.proofs.Common.{w32}
+use Rattle.std.specs.Int.{to_le_bytes}
 use lib.Seq.{sets}
 use Rattle.text.specs.Digits.{digits}
-use Rattle.text.proofs.Laws.{sets-append, set_sets, length_digits}
+use Rattle.text.proofs.Laws.{sets-append, sets-part, set_sets, sets_least, length_digits}
 
 -- a run behind another may be put first
 sets-sets : {A : Type 0} (l : List A) (i j : ℕ) (xs ys : List A) → i + length xs ≤ j → sets (sets l i xs) j ys ≡ sets (sets l j ys) i xs
@@ -34,14 +36,13 @@ digits_rest (suc k) n =
     rw (pow-suc 10 k, before, last, digits_rest k (n / 10))
 
 -- a turn: the last four digits are put, and the digits before them are still to be put
-pub four_turn : (l : List ℕ) (i n : ℕ) → 3 < i → sets (sets l (i - 4) (digits 4 (n % 10000))) 0 (digits (i - 4) (n / 10000)) ≡ sets l 0 (digits i n)
-four_turn l i n h =
-    let whole : i - 4 + 4 ≡ i = omega arith in
-    let first = digits (i - 4) (n / 10000) in
-    let size : length first ≡ i - 4 = length_digits (i - 4) (n / 10000) in
-    let cut : digits i n ≡ first ++ digits 4 n = ap (λ w. digits w n) (sym whole) ∙ digits_cut 4 (i - 4) n in
-    sym (sets-sets l 0 (i - 4) first (digits 4 (n % 10000)) (omega (arith, size)))
-    ∙ ap (λ d. sets (sets l 0 first) (i - 4) d) (digits_rest 4 n)
+pub four_turn : (l : List ℕ) (i w n : ℕ) → i + 4 ≡ w → sets (sets l i (digits 4 (n % 10000))) 0 (digits i (n / 10000)) ≡ sets l 0 (digits w n)
+four_turn l i w n whole =
+    let first = digits i (n / 10000) in
+    let size : length first ≡ i = length_digits i (n / 10000) in
+    let cut : digits w n ≡ first ++ digits 4 n = ap (λ k. digits k n) (sym whole) ∙ digits_cut 4 i n in
+    sym (sets-sets l 0 i first (digits 4 (n % 10000)) (omega (arith, size)))
+    ∙ ap (λ d. sets (sets l 0 first) i d) (digits_rest 4 n)
     ∙ ap (λ k. sets (sets l 0 first) k (digits 4 n)) (sym (zero-add (length first) ∙ size))
     ∙ sym (ap (λ d. sets l 0 d) cut ∙ sets-append l 0 first (digits 4 n))
 
@@ -105,15 +106,13 @@ module _ (a b c d : ℕ) (ha : a < 256) (hb : b < 256) (hc : c < 256) where
   byte-2 : four / 65536 % 256 ≡ c
   byte-2 = omega arith
 
-  byte-3 : four / 16777216 ≡ d
-  byte-3 = omega arith
+  byte-3 : d < 256 → four / 16777216 % 256 ≡ d
+  byte-3 hd = omega arith
 
 -- they are the digits
-pub put_all : (l : List ℕ) (at p : ℕ) → p < 10000
-    → set (set (set (set l at (all_of p % 256)) (at + 1) (all_of p / 256 % 256)) (at + 2) (all_of p / 65536 % 256)) (at + 3) (all_of p / 16777216)
-    ≡ sets l at (digits 4 p)
+pub all_bytes : (p : ℕ) → p < 10000 → to_le_bytes w32 (all_of p) ≡ digits 4 p
 unfolding digits
-put_all l at p h =
+all_bytes p h =
     let a = 48 + p / 100 / 10 in
     let b = 48 + p / 100 % 10 in
     let c = 48 + p % 100 / 10 in
@@ -121,15 +120,21 @@ put_all l at p h =
     let ha : a < 256 = omega arith in
     let hb : b < 256 = omega arith in
     let hc : c < 256 = omega arith in
+    let hd : d < 256 = omega arith in
     let hundred : p / 10 / 10 ≡ p / 100 = div-div-eq-div-mul p 10 10 in
     let thousands : p / 100 / 10 ≡ p / 100 / 10 % 10 = omega arith in
     let tens : p % 100 / 10 ≡ p / 10 % 10 = omega arith in
     let ones : p % 100 % 10 ≡ p % 10 = omega arith in
-    let one : at + 1 ≡ suc at = omega arith in
-    let two : at + 2 ≡ suc (suc at) = omega arith in
-    let three : at + 3 ≡ suc (suc (suc at)) = omega arith in
-    rw (all_is p h, byte-0 a b c d ha hb hc, byte-1 a b c d ha hb hc, byte-2 a b c d ha hb hc, byte-3 a b c d ha hb hc, one, two, three, hundred, tens, ones)
-    (ap (λ t. set (set (set (set l at (48 + t)) (suc at) b) (suc (suc at)) (48 + p / 10 % 10)) (suc (suc (suc at))) (48 + p % 10)) thousands)
+    rw (all_is p h, byte-0 a b c d ha hb hc, byte-1 a b c d ha hb hc, byte-2 a b c d ha hb hc, byte-3 a b c d ha hb hc hd, hundred, tens, ones)
+    (ap (λ t. (48 + t) ∷ b ∷ (48 + p / 10 % 10) ∷ (48 + p % 10) ∷ []) thousands)
+
+-- four bytes put in their place
+pub four_put : (l : List ℕ) (at p : ℕ) (four : List ℕ) → p < 10000 → at + 3 < length l → four ≡ to_le_bytes w32 (all_of p)
+    → take at l ++ (four ++ drop (at + 4 - at) (drop at l)) ≡ sets l at (digits 4 p)
+four_put l at p four h room e =
+    let four_long : at + 4 - at ≡ 4 = omega arith in
+    let fits : 4 ≡ min (length (drop at l)) 4 = omega (arith, length-drop at l) in
+    rw (e, four_long, ← all_bytes p h) (ap (λ d. take at l ++ d) (sets_least (drop at l) (to_le_bytes w32 (all_of p)) 4 fits) ∙ sets-part at l (to_le_bytes w32 (all_of p)))
 
 -- what is taken off is there
 pub pairs_fit : (p : ℕ) → p < 10000 → p * 5243 / 524288 * 6553599 ≤ p * 65536

@@ -2,13 +2,11 @@
 use mathlib.Core.Path.{◌≡◌, refl, sym, ap, ◌∙◌}
 use mathlib.Core.List.{List, [], ◌∷◌, ◌++◌, append-nil}
 use Prim.Native.Nat.{ℕ, zero, suc, ◌+◌, ◌-◌, ◌*◌, ◌/◌, ◌%◌, ◌^◌, ◌≤◌, ◌<◌, min}
-use native.Mathlib.Decide.{dec_le}
 use native.Mathlib.Nat.{add-zero, mod-one, pow-suc, one-le-pow}
-use native.Mathlib.Numerals.{add-one}
 use native.Mathlib.Omega.{arith}
-use lib.ListN.{length, get_or, take, drop, set, length-append, length-drop, drop_of_length-le, take-append-drop}
+use lib.ListN.{length, take, drop, set, length-append, length-drop, drop_of_length-le, take-append-drop}
 use lib.Arith.{mod-mul}
-use lib.Seq.{sets, set_out, set_comm, take_all, drop-cons, drop-set-lt, sets-eq, length-sets}
+use lib.Seq.{sets, set_out, set_comm, take_all, drop-set-lt, sets-eq, length-sets}
 use Rattle.text.specs.Digits.{digits, number}
 
 module _ {A : Type 0} where
@@ -71,21 +69,14 @@ module _ {A : Type 0} where
   set_sets l i j [] b h = refl
   set_sets l i j (v ∷ vs) b h = set_sets (set l i v) (suc i) j vs b (omega arith) ∙ ap (λ k. sets k (suc i) vs) (set_comm l i j v b (omega arith))
 
-  -- a turn of the copy: the byte at i is put, and the rest is still to be put
-  pub copy_turn : (l src : List A) (i : ℕ) (z : A) → i < length src → sets l i (drop i src) ≡ sets (set l i (get_or src i z)) (i + 1) (drop (i + 1) src)
-  copy_turn l src i z h = rw (add-one, drop-cons src i z)
-
-  -- and when all are put, nothing is left to put
-  pub copy_done : (l src : List A) (i : ℕ) → length src ≤ i → sets l i (drop i src) ≡ l
-  copy_done l src i h = rw (drop_of_length-le src h)
-
-  -- nor where the buffer ends
-  pub copied : (l src : List A) (i : ℕ) → min (length l) (length src) ≤ i → sets l i (drop i src) ≡ l
-  copied l src i h = go (dec_le (length src) i)
-    where
-      go : Dec (length src ≤ i) → sets l i (drop i src) ≡ l
-      go (yes k) = copy_done l src i k
-      go (no k) = sets-out l i (drop i src) (omega arith)
+  -- as much of a run as has room, from the front on
+  pub sets_least : (l vs : List A) (n : ℕ) → n ≡ min (length l) (length vs) → take n vs ++ drop n l ≡ sets l 0 vs
+  sets_least l [] n e = let none : n ≡ 0 = omega arith in rw none
+  sets_least [] (v ∷ vs) n e =
+      let none : n ≡ 0 = omega arith in
+      rw none (sym (sets-out [] 0 (v ∷ vs) (omega arith)))
+  sets_least (x ∷ l) (v ∷ vs) zero e = absurd (omega arith)
+  sets_least (x ∷ l) (v ∷ vs) (suc n) e = ap (λ k. v ∷ k) (sets_least l vs n (omega arith)) ∙ sym (sets_behind v l 0 vs)
 
 -- a field has exactly its width
 pub length_digits : (width n : ℕ) → length (digits width n) ≡ width

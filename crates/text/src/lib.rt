@@ -11,24 +11,14 @@ ghost use Rattle.text.specs.Parts.{first_at, begins};
 pub fn find(s: &[u8], b: u8) -> usize
     ensures { result ≡ first_at b s.now }
 {
-    let mut i = 0;
-    while i < s.len() {
-        if s[i] == b {
-            return i;
-        }
-        i += 1;
-    }
-    i
+    s.iter().position(|x| *x == b).unwrap_or(s.len())
 }
 
 // Whether the first byte is `b`.
 pub fn begins_with(s: &[u8], b: u8) -> bool
     ensures { result ≡ begins b s.now }
 {
-    if s.len() == 0 {
-        return false;
-    }
-    s[0] == b
+    s.first() == Some(&b)
 }
 
 // One byte at a place of the buffer.
@@ -53,12 +43,8 @@ pub fn put_bytes(buf: &mut [u8], at: usize, src: &[u8])
 fn copy(part: &mut [u8], src: &[u8])
     ensures { part.new ≡ sets part.old 0 src.now }
 {
-    let n = basics::least_size(part.len(), src.len());
-    let mut i = 0;
-    while i < n {
-        part[i] = src[i];
-        i += 1;
-    }
+    let n = part.len().min(src.len());
+    part[..n].copy_from_slice(&src[..n]);
 }
 
 // The digit writer: `part` begins at the field. The last digits first, so that one number shrinks as the field fills: four a division
@@ -79,9 +65,7 @@ fn write_singly(part: &mut [u8], width: usize, n: u64)
     ensures { part.new ≡ sets part.old 0 (digits width n) }
 {
     let mut left = n;
-    let mut i = width;
-    while 0 < i {
-        i -= 1;
+    for i in (0..width).rev() {
         put_byte(part, i, 48 + (left % 10) as u8);
         left /= 10;
     }
@@ -92,13 +76,11 @@ fn write_fours(part: &mut [u8], width: usize, n: u64) -> u64
     requires { width ≤ length part.old }
     ensures { sets part.new 0 (digits (width % 4) result) ≡ sets part.old 0 (digits width n) }
 {
+    let before = width % 4;
     let mut left = n;
-    let mut i = width;
-    while 3 < i {
-        i -= 4;
-        let four = (left % 10000) as u32;
+    for i in (0..width / 4).rev() {
+        put_four(part, before + i * 4, (left % 10000) as u32);
         left /= 10000;
-        put_four(part, i, four);
     }
     left
 }
@@ -115,10 +97,7 @@ fn put_four(part: &mut [u8], at: usize, four: u32)
     let scaled = pairs * 103;
     let tens = scaled % 65536 / 1024 + scaled / 67108864 * 65536;
     let all = 0x30303030 + pairs * 256 - tens * 2559;
-    part[at] = (all % 256) as u8;
-    part[at + 1] = (all / 256 % 256) as u8;
-    part[at + 2] = (all / 65536 % 256) as u8;
-    part[at + 3] = (all / 16777216) as u8;
+    part[at..at + 4].copy_from_slice(&all.to_le_bytes());
 }
 
 // A field of `width` digits at a place of the buffer.

@@ -2,34 +2,29 @@
 use mathlib.Core.Path.{◌≡◌, refl, sym, ap, subst, ◌∙◌}
 use mathlib.Core.Bool.{Bool, true, false, cond, ◌&&◌, false≢true}
 use mathlib.Core.List.{List, ◌++◌}
-use Prim.Native.Nat.{ℕ, ◌+◌, ◌≤◌, ◌<◌}
+use Prim.Native.Nat.{ℕ, ◌+◌, ◌≤◌}
 use native.Mathlib.Omega.{arith}
 use lib.Dec.{eqb}
 use lib.ListN.{length, take, drop}
-use lib.Seq.{sets, length-take-le}
+use lib.Seq.{sets}
 use borrow.Author.Tests.{eqb-true, ne_eqb}
 use Rattle.wire.specs.Frame.{Message}
 use Rattle.wire.specs.declared.Way.TheVariants.{ToTill}
 use Rattle.reader.specs.Reading.{Place, outside, inside, Event, nothing, broken_frame, heard, read}
 use Rattle.reader.specs.Fields.{place_of, kept_in, heard_of, taken_of}
-use Rattle.reader.specs.declared.Heard.{Heard}
 use Rattle.reader.specs.declared.Reader.{Reader}
 use Rattle.reader.specs.declared.Taken.{Taken}
 use Rattle.till.specs.Turns.{Ear, ear_after, Turn, Meaning, failed, goes_on, answers, nak_outside, read_as, byte_means, on_meaning}
 use Rattle.till.specs.Fields.{ear_in, held_in}
-use Rattle.till.specs.Private.{spoken, failed_by, heard_by, judged_read, judged}
+use Rattle.till.specs.Private.{spoken, failed_by, heard_by, judged}
 use Rattle.till.specs.declared.Attempt.{Attempt}
 use Rattle.till.specs.declared.Said.{Said}
-use Rattle.till.specs.declared.Slot.TheVariants.{Free, Held}
+use Rattle.std.proofs.Common.{None}
 use Rattle.till.specs.declared.Verdict.{Verdict}
 use Rattle.till.specs.declared.Verdict.TheVariants.{Fails, GoesOn, Answers}
-use Rattle.till.specs.declared.Word.TheVariants.{Waiting, Answered}
+use Rattle.till.specs.declared.Word.TheVariants.{Answered}
 use Rattle.till.proofs.Hearing.{broken_outside, heard_from}
 use Rattle.till.proofs.Turning.{fails_keeps, stands, answered}
-
--- what the code judges of a byte, by what the reader told
-pub judged_as : (nak : Bool) (seq code b : ℕ) (h k : Heard) → nak ≡ false → h ≡ k → judged nak seq code b h ≡ judged_read seq code b k
-judged_as nak seq code b h k n e = ap (λ s. cond s Fails (judged_read seq code b h)) n ∙ ap (judged_read seq code b) e
 
 nak_is : (r : Reader) (answer : List ℕ) (b : ℕ) → cond r.inside false (eqb b 0x15) ≡ nak_outside (place_of r answer) b
 nak_is r answer b = go r.inside
@@ -113,24 +108,6 @@ module _ (next : ℕ) (a : Attempt) (frame answer : List ℕ) (b : ℕ) where
           by true w = let z : ◌≡◌ {A = ℕ} 0 1 = cc in absurd (omega arith)
           by false w = (refl, (heard_from ToTill at b m h).left)
 
-  -- reading goes on
-  goes-is : verdict_of means ≡ GoesOn → means ≡ goes_on after
-  goes-is = go (nak_outside at b) (read ToTill at b).event
-    where
-      go : (s : Bool) (e : Event) → verdict_of (means_by s e) ≡ GoesOn → means_by s e ≡ goes_on after
-      go true e v = let z : ◌≡◌ {A = ℕ} 0 1 = cc in absurd (omega arith)
-      go false nothing v = refl
-      go false broken_frame v = by (eqb b 0x01) v
-        where
-          by : (s : Bool) → verdict_of (cond s (goes_on after) failed) ≡ GoesOn → cond s (goes_on after) failed ≡ goes_on after
-          by true w = refl
-          by false w = let z : ◌≡◌ {A = ℕ} 0 1 = cc in absurd (omega arith)
-      go false (heard m) v = by (eqb m.seq a.seq && eqb m.code a.code) v
-        where
-          by : (s : Bool) → verdict_of (cond s (answers m) failed) ≡ GoesOn → cond s (answers m) failed ≡ goes_on after
-          by true w = let z : ◌≡◌ {A = ℕ} 0 1 = cc in absurd (omega arith)
-          by false w = let z : ◌≡◌ {A = ℕ} 0 1 = cc in absurd (omega arith)
-
   -- a whole answer
   answers-is : (n : ℕ) → verdict_of means ≡ Answers n → Answering means (read ToTill at b).event n
   answers-is n = go (nak_outside at b) (read ToTill at b).event
@@ -169,20 +146,7 @@ module _ (next : ℕ) (a : Attempt) (frame answer : List ℕ) (b : ℕ) where
           let f = fails-is v in
           subst (λ m. Turned (turn m)) (sym f.0) (p, (kept ∙ ap (kept_in answer) f.1 ∙ fails_keeps next a frame answer, q))
 
-      pub says_on : verdict_of means ≡ GoesOn → length frame ≡ 256 → a.count < 256 → (t : Taken) → t ≡ taken_of (read ToTill at b)
-          → r ≡ record { till = record { next = next; slot = Held (record { seq = a.seq; code = a.code; tries = a.tries; count = a.count; ear = record { reader = t.reader } }) }; word = Waiting 0 }
-          → buf' ≡ buf → Turned (heard_by next a frame answer b)
-      says_on v size fits t e p q =
-          let long : a.count ≡ length (take a.count frame) = sym (length-take-le a.count frame (omega arith)) in
-          subst (λ m. Turned (turn m)) (sym (goes-is v)) (
-            p ∙ (λ i. record {
-              till = record { next = next; slot = Held (record { seq = a.seq; code = a.code; tries = a.tries; count = long i; ear = record { reader = (e i).reader } }) };
-              word = Waiting 0;
-            }),
-            (kept, q),
-          )
-
-      pub says_answer : (n : ℕ) → verdict_of means ≡ Answers n → r ≡ record { till = record { next = next; slot = Free }; word = Answered (n + 6) }
+      pub says_answer : (n : ℕ) → verdict_of means ≡ Answers n → r ≡ record { till = record { next = next; slot = None }; word = Answered (n + 6) }
           → buf' ≡ sets buf 0 (take n (drop 3 array) ++ take 6 (drop (4 + n) array)) → Turned (heard_by next a frame answer b)
       says_answer n v p q =
           let w = answers-is n v in

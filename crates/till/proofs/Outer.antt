@@ -1,21 +1,19 @@
 -- Laws of the public functions: refusals, Idle, and what their private ones say.
 use mathlib.Core.Path.{◌≡◌, refl, sym, ap, ◌∙◌}
 use mathlib.Core.Bool.{Bool, true, false, cond}
-use mathlib.Core.List.{List, [], ◌∷◌}
-use mathlib.Core.Logic.{⊎_elim}
+use mathlib.Core.List.{List}
 use Prim.Native.Nat.{ℕ, ◌≤◌, ◌<◌}
 use native.Mathlib.Omega.{arith}
 use lib.Dec.{ltb}
 use lib.ListN.{length, take}
 use lib.Seq.{sets, sets-eq, take_at}
 use borrow.Author.Tests.{lt-ltb, le-ltb}
+use Rattle.std.proofs.Common.{Option, Some, None, Result, Ok, Err}
 use Rattle.text.proofs.Laws.{sets_same}
-use denote.Enum.Declared.{tag_of}
-use Rattle.wire.specs.contracts.Built.{the_type}
 use Rattle.wire.specs.Frame.{Message, command_of, frame, sendable}
 use Rattle.wire.specs.Replies.{Reply, reply_of, building}
-use Rattle.wire.specs.declared.Built.{Built}
-use Rattle.wire.specs.declared.Built.TheVariants.{Frame, Short, Unsendable}
+use Rattle.wire.specs.declared.Unbuilt.{Unbuilt}
+use Rattle.wire.specs.declared.Unbuilt.TheVariants.{Short, Unsendable}
 use Rattle.wire.specs.declared.Way.TheVariants.{ToDevice}
 use Rattle.wire.proofs.Building.{can, cannot}
 use Rattle.reader.specs.Reading.{outside, inside}
@@ -24,16 +22,13 @@ use Rattle.reader.specs.Fields.{place_of, kept_in}
 use Rattle.reader.specs.declared.Reader.{Reader}
 use Rattle.till.specs.Words.{number_of}
 use Rattle.till.specs.Turns.{fresh_ear, idle, Turn, Happening, command, byte, timeout, Meaning, failed, goes_on, answers, stays, on_meaning, on_byte, on_timeout, on_command, sent, seq_after, takes}
-use Rattle.till.specs.Fields.{ear_of, pending_of, state_of, slot_of, till_of, framed, held_in, refused, said_of, turn_of}
+use Rattle.till.specs.Fields.{ear_of, pending_of, state_of, framed, held_in, refused, said_of, turn_of}
 use Rattle.till.specs.Private.{spoken, failed_by, heard_by, sent_by}
 use Rattle.till.proofs.Turning.{fails_by}
 use Rattle.till.specs.declared.Attempt.{Attempt}
 use Rattle.till.specs.declared.Ear.{Ear as EarFields}
 use Rattle.till.specs.declared.Said.{Said}
-use Rattle.till.specs.declared.Slot.{Slot}
-use Rattle.till.specs.declared.Slot.TheVariants.{Free, Held}
 use Rattle.till.specs.declared.Till.{Till}
-use Rattle.till.specs.declared.Word.{Word}
 use Rattle.till.specs.declared.Word.TheVariants.{Idle, Waiting, TooShort, NotSent}
 
 -- what the arrays hold already is what they hold
@@ -44,13 +39,13 @@ kept_same r answer = go r.inside
     go true = sym (sets_same 0 r.count answer)
     go false = refl
 
-pub read_same : (s : Slot) (frame answer : List ℕ) → answer ≡ held_in answer (pending_of s frame answer)
-read_same Free frame answer = refl
-read_same (Held a) frame answer = kept_same a.ear.reader answer
+pub read_same : (s : Option Attempt) (frame answer : List ℕ) → answer ≡ held_in answer (pending_of s frame answer)
+read_same None frame answer = refl
+read_same (Some a) frame answer = kept_same a.ear.reader answer
 
-pub framed_same : (s : Slot) (frame answer : List ℕ) → frame ≡ framed frame (pending_of s frame answer)
-framed_same Free frame answer = refl
-framed_same (Held a) frame answer = sym (sets_same 0 a.count frame)
+pub framed_same : (s : Option Attempt) (frame answer : List ℕ) → frame ≡ framed frame (pending_of s frame answer)
+framed_same None frame answer = refl
+framed_same (Some a) frame answer = sym (sets_same 0 a.count frame)
 
 -- the turn: 7 first, then by what waits
 module _ (t : Till) (frame answer buf : List ℕ) where
@@ -61,36 +56,25 @@ module _ (t : Till) (frame answer buf : List ℕ) where
     taken : (h : Happening) → turn_of t frame answer buf h ≡ takes (state_of t frame answer) h
     taken h = ap (λ c. cond c (stays TooShort (state_of t frame answer)) (takes (state_of t frame answer) h)) (le-ltb (length buf) 210 room)
 
-    pub byte_idle : (b : ℕ) → t.slot ≡ Free → turn_of t frame answer buf (byte b) ≡ stays Idle (state_of t frame answer)
+    pub byte_idle : (b : ℕ) → t.slot ≡ None → turn_of t frame answer buf (byte b) ≡ stays Idle (state_of t frame answer)
     byte_idle b e = taken (byte b) ∙ ap (λ z. on_byte (state_of t frame answer) (pending_of z frame answer) b) e
 
-    pub byte_held : (b : ℕ) (a : Attempt) → t.slot ≡ Held a → turn_of t frame answer buf (byte b) ≡ heard_by t.next a frame answer b
+    pub byte_held : (b : ℕ) (a : Attempt) → t.slot ≡ Some a → turn_of t frame answer buf (byte b) ≡ heard_by t.next a frame answer b
     byte_held b a e = taken (byte b) ∙ ap (λ z. on_byte (state_of t frame answer) (pending_of z frame answer) b) e
 
-    pub timeout_idle : t.slot ≡ Free → turn_of t frame answer buf timeout ≡ stays Idle (state_of t frame answer)
+    pub timeout_idle : t.slot ≡ None → turn_of t frame answer buf timeout ≡ stays Idle (state_of t frame answer)
     timeout_idle e = taken timeout ∙ ap (λ z. on_timeout (state_of t frame answer) (pending_of z frame answer)) e
 
-    pub timeout_held : (a : Attempt) → t.slot ≡ Held a → turn_of t frame answer buf timeout ≡ failed_by t.next a frame
+    pub timeout_held : (a : Attempt) → t.slot ≡ Some a → turn_of t frame answer buf timeout ≡ failed_by t.next a frame
     timeout_held a e = taken timeout ∙ ap (λ z. on_timeout (state_of t frame answer) (pending_of z frame answer)) e
 
-    pub command_held : (code : ℕ) (content : List ℕ) (a : Attempt) → t.slot ≡ Held a → turn_of t frame answer buf (command code content) ≡ stays NotSent (state_of t frame answer)
+    pub command_held : (code : ℕ) (content : List ℕ) (a : Attempt) → t.slot ≡ Some a → turn_of t frame answer buf (command code content) ≡ stays NotSent (state_of t frame answer)
     command_held code content a e = taken (command code content) ∙ ap (λ z. on_command (state_of t frame answer) (pending_of z frame answer) code content) e
 
-    pub command_free : (code : ℕ) (content : List ℕ) → t.slot ≡ Free → turn_of t frame answer buf (command code content) ≡ sent_by t.next code content
+    pub command_free : (code : ℕ) (content : List ℕ) → t.slot ≡ None → turn_of t frame answer buf (command code content) ≡ sent_by t.next code content
     command_free code content e =
         taken (command code content)
         ∙ ap (λ z. on_command (record { next = t.next; pending = pending_of z frame answer }) (pending_of z frame answer) code content) e
-
--- "everything stays": 7 and 8
-pub all_stays : (t : Till) (frame answer : List ℕ) (word : Word) → refused (number_of word) ≡ true
-    → record { till = t; word = word } ≡ said_of t (stays word (state_of t frame answer))
-all_stays t frame answer word e = ap (λ c. record { till = cond c t (till_of (state_of t frame answer)); word = word }) (sym e)
-
--- Idle "changes nothing"
-pub idle_stays : (t : Till) (frame answer : List ℕ) → t.slot ≡ Free → record { till = t; word = Idle } ≡ said_of t (stays Idle (state_of t frame answer))
-idle_stays t frame answer e =
-    let same : t.slot ≡ slot_of (pending_of t.slot frame answer) = e ∙ ap (λ z. slot_of (pending_of z frame answer)) (sym e) in
-    λ i. record { till = record { next = t.next; slot = same i }; word = Idle }
 
 -- a command that waits is never refused
 pub not_refused : (next seq code : ℕ) (bytes : List ℕ) (tries : ℕ) (m : Meaning) → refused (number_of (on_meaning next seq code bytes tries m).word) ≡ false
@@ -102,26 +86,9 @@ not_refused next seq code bytes tries failed = go (ltb tries 5)
 not_refused next seq code bytes tries (goes_on ear) = refl
 not_refused next seq code bytes tries (answers m) = refl
 
-said_on : (t : Till) (next seq code : ℕ) (bytes : List ℕ) (tries : ℕ) (m : Meaning)
-    → spoken (on_meaning next seq code bytes tries m) ≡ said_of t (on_meaning next seq code bytes tries m)
-said_on t next seq code bytes tries m =
-    let x : Turn = on_meaning next seq code bytes tries m in
-    ap (λ c. record { till = cond c t (till_of x.state); word = x.word }) (sym (not_refused next seq code bytes tries m))
-
-pub said_held : (t : Till) (r : Said) (x : Turn) (next seq code : ℕ) (bytes : List ℕ) (tries : ℕ) (m : Meaning) → x ≡ on_meaning next seq code bytes tries m
-    → r ≡ spoken (on_meaning next seq code bytes tries m) → r ≡ said_of t x
-said_held t r x next seq code bytes tries m e p = p ∙ said_on t next seq code bytes tries m ∙ ap (said_of t) (sym e)
-
 -- and one that is sent, or is not
 abbrev by_sendable : ℕ → Message → Bool → Turn
 by_sendable next m s = cond s (sent next m) (stays NotSent (record { next = next; pending = idle }))
-
-pub said_sent : (t : Till) (code : ℕ) (content : List ℕ) → t.slot ≡ Free → spoken (sent_by t.next code content) ≡ said_of t (sent_by t.next code content)
-said_sent t code content e = go (sendable ToDevice (command_of t.next code content))
-  where
-    go : (s : Bool) → spoken (by_sendable t.next (command_of t.next code content) s) ≡ said_of t (by_sendable t.next (command_of t.next code content) s)
-    go true = refl
-    go false = λ i. record { till = record { next = t.next; slot = sym e i }; word = NotSent }
 
 -- what a public function says, from its turn
 module _ (t : Till) (buf buf' : List ℕ) (r : Said) (x y : Turn) (e : x ≡ y) where
@@ -148,7 +115,7 @@ module _ (next code : ℕ) (content array : List ℕ) (size : length array ≡ 2
   built-as true e = can ToDevice array m (omega arith) e
   built-as false e = cannot ToDevice array m (omega arith) e
 
-  pub built_frame : (r : Built) (after : List ℕ) (n : ℕ) → r ≡ Frame n → reply_of r after ≡ building ToDevice array m
+  pub built_frame : (r : Result ℕ Unbuilt) (after : List ℕ) (n : ℕ) → r ≡ Ok n → reply_of r after ≡ building ToDevice array m
       → (sendable ToDevice m ≡ true) × ((n ≡ length (frame ToDevice m)) × (after ≡ sets array 0 (frame ToDevice m)))
   built_frame r after n is e = go (sendable ToDevice m) refl
     where
@@ -161,30 +128,22 @@ module _ (next code : ℕ) (content array : List ℕ) (size : length array ≡ 2
           absurd (omega (arith, ap (λ (z : Reply). z.number) all))
 
   -- the array is long enough, so that no frame says that it can't be sent
-  pub built_none : (r : Built) (after : List ℕ) → ((n : ℕ) → r ≡ Frame n → ⊥) → reply_of r after ≡ building ToDevice array m
+  pub built_none : (r : Result ℕ Unbuilt) (after : List ℕ) → ((n : ℕ) → r ≡ Ok n → ⊥) → reply_of r after ≡ building ToDevice array m
       → (sendable ToDevice m ≡ false) × (after ≡ array)
   built_none r after no-frame e = go r (sendable ToDevice m) refl no-frame e
     where
-      go : (z : Built) (s : Bool) → sendable ToDevice m ≡ s → ((n : ℕ) → z ≡ Frame n → ⊥) → reply_of z after ≡ building ToDevice array m
+      go : (z : Result ℕ Unbuilt) (s : Bool) → sendable ToDevice m ≡ s → ((n : ℕ) → z ≡ Ok n → ⊥) → reply_of z after ≡ building ToDevice array m
           → (sendable ToDevice m ≡ false) × (after ≡ array)
-      go (Frame n) s es o h = absurd (o n refl)
-      go Short true es o h = absurd (omega (arith, ap (λ (z : Reply). z.number) (h ∙ built-as true es)))
-      go Short false es o h = absurd (omega (arith, ap (λ (z : Reply). z.number) (h ∙ built-as false es)))
-      go Unsendable true es o h = absurd (omega (arith, ap (λ (z : Reply). z.number) (h ∙ built-as true es)))
-      go Unsendable false es o h = (es, ap (λ (z : Reply). z.buffer) (h ∙ built-as false es))
-
-  -- not sent
-  pub says_not : sendable ToDevice m ≡ false → (after buf : List ℕ) → after ≡ array
-      → (record { till = record { next = next; slot = Free }; word = NotSent } ≡ spoken (sent_by next code content))
-      × ((after ≡ framed array (sent_by next code content).state.pending) × (buf ≡ sets buf 0 (sent_by next code content).puts))
-  says_not e after buf same =
-      let turn : sent_by next code content ≡ stays NotSent (record { next = next; pending = idle }) = ap (by_sendable next m) e in
-      (ap spoken (sym turn), (same ∙ ap (λ (z : Turn). framed array z.state.pending) (sym turn), ap (λ (z : Turn). sets buf 0 z.puts) (sym turn)))
+      go (Ok n) s es o h = absurd (o n refl)
+      go (Err Short) true es o h = absurd (omega (arith, ap (λ (z : Reply). z.number) (h ∙ built-as true es)))
+      go (Err Short) false es o h = absurd (omega (arith, ap (λ (z : Reply). z.number) (h ∙ built-as false es)))
+      go (Err Unsendable) true es o h = absurd (omega (arith, ap (λ (z : Reply). z.number) (h ∙ built-as true es)))
+      go (Err Unsendable) false es o h = (es, ap (λ (z : Reply). z.buffer) (h ∙ built-as false es))
 
   -- sent: the frame that is handed out is the one that is held
   pub says_sent : sendable ToDevice m ≡ true → (n : ℕ) → n ≡ length (frame ToDevice m) → (after buf buf' : List ℕ) → after ≡ sets array 0 (frame ToDevice m)
       → buf' ≡ sets buf 0 (take n after) → (up : ℕ) → up ≡ seq_after next → (start : EarFields) → start ≡ ear_of fresh_ear
-      → (record { till = record { next = up; slot = Held (record { seq = next; code = code; tries = 1; count = n; ear = start }) }; word = Waiting n } ≡ spoken (sent_by next code content))
+      → (record { till = record { next = up; slot = Some (record { seq = next; code = code; tries = 1; count = n; ear = start }) }; word = Waiting n } ≡ spoken (sent_by next code content))
       × ((after ≡ framed array (sent_by next code content).state.pending) × (buf' ≡ sets buf 0 (sent_by next code content).puts))
   says_sent e n count after buf buf' ea eb up eu start es =
       let turn : sent_by next code content ≡ sent next m = ap (by_sendable next m) e in
@@ -192,7 +151,7 @@ module _ (next code : ℕ) (content array : List ℕ) (size : length array ≡ 2
       let held : take n after ≡ frame ToDevice m =
       ap (take n) (ea ∙ sets-eq (frame ToDevice m) array 0 (omega arith)) ∙ take_at (frame ToDevice m) _ n (sym count) in (
         (λ i. record {
-          till = record { next = eu i; slot = Held (record { seq = next; code = code; tries = 1; count = count i; ear = es i }) };
+          till = record { next = eu i; slot = Some (record { seq = next; code = code; tries = 1; count = count i; ear = es i }) };
           word = Waiting (count i);
         }) ∙ ap spoken (sym turn),
         (ea ∙ ap (λ (z : Turn). framed array z.state.pending) (sym turn), eb ∙ ap (sets buf 0) held ∙ ap (λ (z : Turn). sets buf 0 z.puts) (sym turn)),

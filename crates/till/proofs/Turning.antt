@@ -2,12 +2,12 @@
 use mathlib.Core.Path.{◌≡◌, refl, sym, ap, ◌∙◌}
 use mathlib.Core.Bool.{Bool, true, false, cond, false≢true}
 use mathlib.Core.List.{List, [], ◌∷◌, ◌++◌}
-use Prim.Native.Nat.{ℕ, zero, suc, ◌+◌, ◌-◌, ◌≤◌, ◌<◌, min}
+use Prim.Native.Nat.{ℕ, zero, suc, ◌+◌, ◌-◌, ◌≤◌, min}
 use native.Mathlib.Omega.{arith}
-use lib.Dec.{eqb, ltb}
+use lib.Dec.{ltb}
 use lib.ListN.{length, get_or, take, drop, length-append, length-take, length-drop}
 use lib.Seq.{sets, take-take, length-take-le}
-use borrow.Author.Tests.{eqb-true, ne_eqb, lt-ltb, le-ltb}
+use borrow.Author.Tests.{eqb-true}
 use Rattle.text.proofs.Laws.{sets-append}
 use Rattle.wire.proofs.Suits.{length_front}
 use Rattle.wire.specs.Frame.{Message}
@@ -17,12 +17,11 @@ use Rattle.reader.specs.Reading.{outside, inside, heard, at_last, read}
 use Rattle.reader.specs.Fields.{place_of}
 use Rattle.reader.specs.declared.Reader.{Reader}
 use Rattle.till.specs.Turns.{fresh_ear, idle, waits, Turn, stays, gives}
-use Rattle.till.specs.Fields.{ear_of, held_in}
+use Rattle.till.specs.Fields.{held_in}
 use Rattle.till.specs.Private.{spoken, failed_by}
 use Rattle.till.specs.declared.Attempt.{Attempt}
-use Rattle.till.specs.declared.Ear.{Ear as EarFields}
 use Rattle.till.specs.declared.Said.{Said}
-use Rattle.till.specs.declared.Slot.TheVariants.{Free, Held}
+use Rattle.std.proofs.Common.{None}
 use Rattle.till.specs.declared.Word.TheVariants.{SendAgain, Answered, Unfinished}
 use Rattle.till.proofs.Hearing.{heard_from}
 
@@ -32,10 +31,6 @@ part n zero k l h = take-take n k l (omega arith)
 part n (suc i) zero l h = absurd (omega arith)
 part n (suc i) (suc k) [] h = refl
 part n (suc i) (suc k) (x ∷ l) h = part n i k l (omega arith)
-
--- SEQ goes up
-pub goes_up : (seq : ℕ) → (seq ≡ 0xFF → ⊥) → seq + 1 ≡ cond (eqb seq 0xFF) 0x20 (seq + 1)
-goes_up seq h = rw (ne_eqb seq 0xFF h)
 
 -- the bytes since 01h
 place_bytes : (r : Reader) (array : List ℕ) (sum : ℕ) (bytes : List ℕ) → place_of r array ≡ inside sum bytes → bytes ≡ take r.count array
@@ -88,29 +83,6 @@ module _ (next : ℕ) (a : Attempt) (frame : List ℕ) where
   abbrev fails : Bool → Turn
   fails early = fails_by next a.seq a.code (take a.count frame) a.tries early
 
-  fails-early : a.tries < 5 → failed_by next a frame ≡ fails true
-  fails-early h = ap fails (lt-ltb a.tries 5 h)
-
-  fails-last : 5 ≤ a.tries → failed_by next a frame ≡ fails false
-  fails-last h = ap fails (le-ltb a.tries 5 h)
-
-  pub says_again : a.tries < 5 → length frame ≡ 256 → a.count < 256 → (start : EarFields) → start ≡ ear_of fresh_ear → (buf buf' : List ℕ)
-      → buf' ≡ sets buf 0 (take a.count frame)
-      → (record { till = record { next = next; slot = Held (record { seq = a.seq; code = a.code; tries = a.tries + 1; count = a.count; ear = start }) }; word = SendAgain a.count }
-      ≡ spoken (failed_by next a frame)) × (buf' ≡ sets buf 0 (failed_by next a frame).puts)
-  says_again h size fits start e buf buf' q =
-      let long : a.count ≡ length (take a.count frame) = sym (length-take-le a.count frame (omega arith)) in (
-        (λ i. record {
-          till = record { next = next; slot = Held (record { seq = a.seq; code = a.code; tries = a.tries + 1; count = long i; ear = e i }) };
-          word = SendAgain (long i);
-        }) ∙ ap spoken (sym (fails-early h)),
-        q ∙ ap (λ (z : Turn). sets buf 0 z.puts) (sym (fails-early h)),
-      )
-
-  pub says_unfinished : 5 ≤ a.tries → (buf : List ℕ)
-      → (record { till = record { next = next; slot = Free }; word = Unfinished a.tries } ≡ spoken (failed_by next a frame)) × (buf ≡ sets buf 0 (failed_by next a frame).puts)
-  says_unfinished h buf = (ap spoken (sym (fails-last h)), ap (λ (z : Turn). sets buf 0 z.puts) (sym (fails-last h)))
-
   -- it leaves the answer's bytes
   pub fails_keeps : (answer : List ℕ) → answer ≡ held_in answer (failed_by next a frame).state.pending
   fails_keeps answer = go (ltb a.tries 5)
@@ -121,7 +93,7 @@ module _ (next : ℕ) (a : Attempt) (frame : List ℕ) where
 
 -- Answered: the answer's data and status, as they stand in the array
 pub answered : (next : ℕ) (answer : List ℕ) (m : Message) → Stands answer m → (n : ℕ) → length m.content ≡ n → (r : Said) (buf buf' : List ℕ)
-    → r ≡ record { till = record { next = next; slot = Free }; word = Answered (n + 6) }
+    → r ≡ record { till = record { next = next; slot = None }; word = Answered (n + 6) }
     → buf' ≡ sets buf 0 (take n (drop 3 answer) ++ take 6 (drop (4 + n) answer))
     → (r ≡ spoken (gives Answered (m.content ++ m.status) (record { next = next; pending = idle }))) × (buf' ≡ sets buf 0 (m.content ++ m.status))
 answered next answer m s n size r buf buf' p q =
@@ -129,7 +101,7 @@ answered next answer m s n size r buf buf' p q =
     let status : m.status ≡ take 6 (drop (4 + n) answer) = s.status ∙ ap (λ k. take 6 (drop (4 + k) answer)) size in
     let six : length m.status ≡ 6 = ap length status ∙ length-status answer n (omega (arith, s.room)) in
     let all : n + 6 ≡ length (m.content ++ m.status) = sym (length-append m.content m.status ∙ omega arith) in (
-      p ∙ ap (λ k. record { till = record { next = next; slot = Free }; word = Answered k }) all,
+      p ∙ ap (λ k. record { till = record { next = next; slot = None }; word = Answered k }) all,
       q ∙ ap (λ z. sets buf 0 (z ++ take 6 (drop (4 + n) answer))) (sym content) ∙ ap (λ z. sets buf 0 (m.content ++ z)) (sym status),
     )
 

@@ -1,12 +1,11 @@
 -- PROTOCOL 8.5: what the till end remembers, in its fields and its lent arrays.
-use Rattle.std.specs.Prelude.{ℕ, Bool, cond, ◌||◌, List, eqb, length, take}
+use Rattle.std.specs.Prelude.{ℕ, Bool, cond, ◌||◌, List, eqb, length, take, Option, Some, None}
 use Rattle.std.proofs.lemmas.List.Edits.{sets}
 use Rattle.reader.specs.Fields.{place_of, reader_of, kept_in}
 use Rattle.till.specs.Words.{number_of}
 use Rattle.till.specs.Turns.{Ear, Pending, idle, waits, State, Happening, Turn, hears}
 use Rattle.till.specs.declared.Ear.{Ear as EarFields}
-use Rattle.till.specs.declared.Slot.{Slot}
-use Rattle.till.specs.declared.Slot.TheVariants.{Free, Held}
+use Rattle.till.specs.declared.Attempt.{Attempt}
 use Rattle.till.specs.declared.Till.{Till}
 use Rattle.till.specs.declared.Said.{Said}
 
@@ -18,17 +17,17 @@ abbrev pub ear_of : Ear → EarFields
 ear_of ear = record { reader = reader_of ear.place }
 
 -- the state that the fields say, with the array that holds the frame and the one that holds the answer's bytes since 01h
-abbrev pub pending_of : Slot → List ℕ → List ℕ → Pending
-pending_of Free frame answer = idle
-pending_of (Held a) frame answer = waits a.seq a.code (take a.count frame) a.tries (ear_in a.ear answer)
+abbrev pub pending_of : Option Attempt → List ℕ → List ℕ → Pending
+pending_of None frame answer = idle
+pending_of (Some a) frame answer = waits a.seq a.code (take a.count frame) a.tries (ear_in a.ear answer)
 
 abbrev pub state_of : Till → List ℕ → List ℕ → State
 state_of t frame answer = record { next = t.next; pending = pending_of t.slot frame answer }
 
 -- and the fields that say a state
-abbrev pub slot_of : Pending → Slot
-slot_of idle = Free
-slot_of (waits seq code bytes tries ear) = Held (record { seq = seq; code = code; tries = tries; count = length bytes; ear = ear_of ear })
+abbrev pub slot_of : Pending → Option Attempt
+slot_of idle = None
+slot_of (waits seq code bytes tries ear) = Some (record { seq = seq; code = code; tries = tries; count = length bytes; ear = ear_of ear })
 
 abbrev pub till_of : State → Till
 till_of s = record { next = s.next; slot = slot_of s.pending }

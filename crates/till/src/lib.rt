@@ -7,11 +7,10 @@ ghost use Rattle.till.specs.Words.{number_of, count_of};
 ghost use Rattle.till.specs.Turns.{command, byte, timeout, fresh_ear, fresh_state, seq_after};
 ghost use Rattle.till.specs.Fields.{ear_of, till_of, framed, held_in, said_of, turn_of};
 ghost use Rattle.till.specs.Private.{spoken, failed_by, heard_by, judged, sent_by};
-ghost use Rattle.till.specs.declared.Slot.TheVariants.{Free, Held};
 ghost use Rattle.till.specs.declared.Word.TheVariants.{Waiting, Answered, NotSent};
 
 use reader::{FRAME_ROOM, Heard, Reader, Taken};
-use wire::{Built, COMMAND_ROOM, Way};
+use wire::{COMMAND_ROOM, Way};
 
 // PROTOCOL 7.6: as often as a frame is handed out at most.
 pub const MOST_TRIES: u8 = 5;
@@ -38,18 +37,11 @@ pub struct Attempt {
     pub ear: Ear,
 }
 
-// No command waits, or one does.
-#[derive(Clone, Copy)]
-pub enum Slot {
-    Free,
-    Held(Attempt),
-}
-
-// `next` is the SEQ of the next command.
+// `next` is the SEQ of the next command; `slot` holds the one that waits, if one does.
 #[derive(Clone, Copy)]
 pub struct Till {
     pub next: u8,
-    pub slot: Slot,
+    pub slot: Option<Attempt>,
 }
 
 // What the till end says, with how many bytes it put in the lent buffer, or the number of tries.
@@ -85,7 +77,7 @@ pub fn fresh() -> Till
 {
     Till {
         next: FIRST_SEQ,
-        slot: Slot::Free,
+        slot: None,
     }
 }
 
@@ -94,10 +86,7 @@ pub fn number(word: Word) -> u8
     ensures { result ≡ number_of word }
 {
     match word {
-        Word::Idle => 0,
-        Word::Waiting(_) => 0,
-        Word::SendAgain(_) => 0,
-        Word::Answered(_) => 0,
+        Word::Idle | Word::Waiting(_) | Word::SendAgain(_) | Word::Answered(_) => 0,
         Word::Unfinished(_) => 9,
         Word::TooShort => 7,
         Word::NotSent => 8,
@@ -109,13 +98,8 @@ pub fn count(word: Word) -> usize
     ensures { result ≡ count_of word }
 {
     match word {
-        Word::Idle => 0,
-        Word::Waiting(n) => n,
-        Word::SendAgain(n) => n,
-        Word::Answered(n) => n,
-        Word::Unfinished(n) => n,
-        Word::TooShort => 0,
-        Word::NotSent => 0,
+        Word::Idle | Word::TooShort | Word::NotSent => 0,
+        Word::Waiting(n) | Word::SendAgain(n) | Word::Answered(n) | Word::Unfinished(n) => n,
     }
 }
 
@@ -137,8 +121,7 @@ pub fn command(
             word: Word::TooShort,
         };
     }
-    let slot = till.slot;
-    let Slot::Free = slot else {
+    let None = till.slot else {
         return Said {
             till,
             word: Word::NotSent,
@@ -154,7 +137,7 @@ fn send(next: u8, frame: &mut [u8; FRAME_ROOM], code: u8, content: &[u8], buf: &
     ensures buf_after { buf.new ≡ sets buf.old 0 (sent_by next code content.now).puts }
 {
     let built = wire::build::build_command(frame, next, code, content);
-    let Built::Frame(n) = built else {
+    let Ok(n) = built else {
         return free(next, Word::NotSent);
     };
     put_part(&*frame, 0, n, buf, 0);
@@ -170,12 +153,12 @@ fn send(next: u8, frame: &mut [u8; FRAME_ROOM], code: u8, content: &[u8], buf: &
 
 // What is said where a command waits.
 fn held(next: u8, a: Attempt, word: Word) -> Said
-    ensures { result ≡ record { till = record { next = next; slot = Held a }; word = word } }
+    ensures { result ≡ record { till = record { next = next; slot = Some a }; word = word } }
 {
     Said {
         till: Till {
             next,
-            slot: Slot::Held(a),
+            slot: Some(a),
         },
         word,
     }
@@ -183,13 +166,10 @@ fn held(next: u8, a: Attempt, word: Word) -> Said
 
 // What is said where no command waits.
 fn free(next: u8, word: Word) -> Said
-    ensures { result ≡ record { till = record { next = next; slot = Free }; word = word } }
+    ensures { result ≡ record { till = record { next = next; slot = None }; word = word } }
 {
     Said {
-        till: Till {
-            next,
-            slot: Slot::Free,
-        },
+        till: Till { next, slot: None },
         word,
     }
 }
@@ -207,10 +187,7 @@ fn listen() -> Ear
 fn seq_after(seq: u8) -> u8
     ensures { result ≡ seq_after seq }
 {
-    if seq == LAST_SEQ {
-        return FIRST_SEQ;
-    }
-    seq + 1
+    if seq == LAST_SEQ { FIRST_SEQ } else { seq + 1 }
 }
 
 // The n bytes from `start` on, put into the lent buffer.
@@ -240,8 +217,7 @@ pub fn byte(
             word: Word::TooShort,
         };
     }
-    let slot = till.slot;
-    let Slot::Held(a) = slot else {
+    let Some(a) = till.slot else {
         return Said {
             till,
             word: Word::Idle,
@@ -266,12 +242,11 @@ fn hear(
 {
     let reader = a.ear.reader;
     let taken = reader::take_byte(Way::ToTill, reader, answer, b);
-    let heard = taken.heard;
-    let verdict = judge(nak_outside(reader.inside, b), a.seq, a.code, b, heard);
-    match verdict {
-        Verdict::Fails => return failed_try(next, a, frame, buf),
-        Verdict::GoesOn => return goes_on(next, a, taken),
-        Verdict::Answers(n) => return answered(next, &*answer, n, buf),
+    let nak = nak_outside(reader.inside, b);
+    match judge(nak, a.seq, a.code, b, taken.heard) {
+        Verdict::Fails => failed_try(next, a, frame, buf),
+        Verdict::GoesOn => goes_on(next, a, taken),
+        Verdict::Answers(n) => answered(next, &*answer, n, buf),
     }
 }
 
@@ -279,27 +254,16 @@ fn hear(
 fn judge(nak: bool, seq: u8, code: u8, b: u8, heard: Heard) -> Verdict
     ensures { result ≡ judged nak seq code b heard }
 {
-    if nak {
-        return Verdict::Fails;
-    }
     match heard {
+        _ if nak => Verdict::Fails,
         Heard::Nothing => Verdict::GoesOn,
-        Heard::Broken => {
-            if b == 0x01 {
-                return Verdict::GoesOn;
-            }
-            Verdict::Fails
-        }
+        Heard::Broken if b == 0x01 => Verdict::GoesOn,
         Heard::Whole {
             seq: s,
             code: c,
             count,
-        } => {
-            if (s == seq) & (c == code) {
-                return Verdict::Answers(count);
-            }
-            Verdict::Fails
-        }
+        } if s == seq && c == code => Verdict::Answers(count),
+        _ => Verdict::Fails,
     }
 }
 
@@ -307,24 +271,19 @@ fn judge(nak: bool, seq: u8, code: u8, b: u8, heard: Heard) -> Verdict
 fn nak_outside(within: bool, b: u8) -> bool
     ensures { result ≡ cond within false (eqb b 0x15) }
 {
-    if within {
-        return false;
-    }
-    b == 0x15
+    !within && b == 0x15
 }
 
 // One byte more, of an answer or beside one. That the count is a byte is for its caller.
 fn goes_on(next: u8, a: Attempt, taken: Taken) -> Said
     ensures count_bound { a.count < 256 }
-    ensures value { result ≡ record { till = record { next = next; slot = Held (record { seq = a.seq; code = a.code; tries = a.tries; count = a.count; ear = record { reader = taken.reader } }) }; word = Waiting 0 } }
+    ensures value { result ≡ record { till = record { next = next; slot = Some (record { seq = a.seq; code = a.code; tries = a.tries; count = a.count; ear = record { reader = taken.reader } }) }; word = Waiting 0 } }
 {
-    let reader = taken.reader;
     let more = Attempt {
-        seq: a.seq,
-        code: a.code,
-        tries: a.tries,
-        count: a.count,
-        ear: Ear { reader },
+        ear: Ear {
+            reader: taken.reader,
+        },
+        ..a
     };
     held(next, more, Word::Waiting(0))
 }
@@ -332,7 +291,7 @@ fn goes_on(next: u8, a: Attempt, taken: Taken) -> Said
 // The answer's n data bytes, and behind them its six status bytes.
 fn answered(next: u8, answer: &[u8], n: usize, buf: &mut [u8]) -> Said
     requires { n + 10 ≤ length answer.now }
-    ensures value { result ≡ record { till = record { next = next; slot = Free }; word = Answered (n + 6) } }
+    ensures value { result ≡ record { till = record { next = next; slot = None }; word = Answered (n + 6) } }
     ensures buf_after { buf.new ≡ sets buf.old 0 (take n (drop 3 answer.now) ++ take 6 (drop (4 + n) answer.now)) }
 {
     put_part(answer, 3, n, buf, 0);
@@ -351,11 +310,9 @@ fn failed_try(next: u8, a: Attempt, frame: &[u8], buf: &mut [u8]) -> Said
     if tries < MOST_TRIES {
         put_part(frame, 0, count as usize, buf, 0);
         let again = Attempt {
-            seq: a.seq,
-            code: a.code,
             tries: tries + 1,
-            count,
             ear: listen(),
+            ..a
         };
         return held(next, again, Word::SendAgain(count as usize));
     }
@@ -373,8 +330,7 @@ pub fn timeout(till: Till, frame: &[u8; FRAME_ROOM], buf: &mut [u8]) -> Said
             word: Word::TooShort,
         };
     }
-    let slot = till.slot;
-    let Slot::Held(a) = slot else {
+    let Some(a) = till.slot else {
         return Said {
             till,
             word: Word::Idle,

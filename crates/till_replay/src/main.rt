@@ -4,7 +4,7 @@
 ghost use Rattle.std.specs.Prelude.{◌≡◌, ◌<◌, length};
 
 use events::{End, TILL_ROOM};
-use feeding::Fed;
+use feeding::Unfed;
 use reader::FRAME_ROOM;
 use std::io::{Error, Result};
 use system::Outlets;
@@ -21,30 +21,29 @@ fn main(rt: HostRuntime) {
     let mut event = [0u8; TILL_ROOM];
     let mut buf = [0u8; FRAME_ROOM];
     let mut till = till::fresh();
-    let mut events: u64 = 0;
-    while events < 0xFFFFFFFFFFFFFFFF {
+    for events in 0..u64::MAX {
         let fed = feeding::next_event(rt.stdin(), to.errors, End::Till, &mut event);
-        let Fed::Whole(n) = fed else {
-            ended(to, fed, events);
-            return;
+        let n = match fed {
+            Ok(n) => n,
+            Err(why) => {
+                ended(to, why, events);
+                return;
+            }
         };
         let said = happen(till, &mut frame, &mut answer, &event, n, &mut buf);
-        let word = said.word;
-        if let Err(why) = say(to, word, &buf) {
+        if let Err(why) = say(to, said.word, &buf) {
             unwritten(to, why);
             return;
         }
-        let after = said.till;
-        till = after;
-        events += 1;
+        till = said.till;
     }
 }
 
 // Why there are no more events: at the end of the input nothing is said.
-fn ended(to: Outlets, fed: Fed, events: u64) {
-    let Fed::Broken = fed else {
+fn ended(to: Outlets, why: Unfed, events: u64) {
+    if why == Unfed::Ended {
         return;
-    };
+    }
     system::write(&to.errors, b"error: after ");
     system::number(&to.errors, events);
     system::write(
@@ -98,8 +97,7 @@ fn say(to: Outlets, word: Word, buf: &[u8]) -> Result<()> {
 // The word's place among the five words of PROTOCOL 7.1; 0 where there is none.
 fn place(word: Word) -> u8 {
     match word {
-        Word::TooShort => 0,
-        Word::NotSent => 0,
+        Word::TooShort | Word::NotSent => 0,
         Word::Idle => 1,
         Word::Waiting(_) => 2,
         Word::SendAgain(_) => 3,

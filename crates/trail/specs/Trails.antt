@@ -1,7 +1,7 @@
 -- Offsets in a recording, and its bytes outside frames (PROTOCOL 1.7 to 1.9).
 use Rattle.std.specs.Prelude.{ℕ, ◌+◌, min, Bool, cond, List, [], ◌∷◌, eqb}
 use Rattle.wire.specs.declared.Way.TheVariants.{ToDevice}
-use Rattle.reader.specs.Reading.{Read, read, outside}
+use Rattle.reader.specs.Reading.{read, outside}
 use Rattle.reader.specs.Fields.{place_of, reader_of, kept_in, heard_of}
 use Rattle.reader.specs.declared.Heard.{Heard}
 use Rattle.reader.specs.declared.Heard.TheVariants.{Nothing, Broken, Whole}

@@ -1,11 +1,11 @@
 // Where in a recording its frames stand: the offset of each, and the bytes that belong to none (PROTOCOL 1.7 to 1.9).
 #![tactic(auto)]
 
-ghost use Rattle.std.specs.Prelude.{◌≡◌, cond, eqb};
+ghost use Rattle.std.specs.Prelude.{◌≡◌};
 ghost use Rattle.reader.specs.Reading.{read};
 ghost use Rattle.reader.specs.Fields.{place_of, kept_in};
 ghost use Rattle.wire.specs.declared.Way.TheVariants.{ToDevice};
-ghost use Rattle.trail.specs.Trails.{fresh_trail, passed, followed, counted, skipped_behind, skipped_by};
+ghost use Rattle.trail.specs.Trails.{fresh_trail, passed, followed, skipped_behind};
 
 use reader::{FRAME_ROOM, Heard, Reader};
 use wire::Way;
@@ -39,67 +39,32 @@ pub fn pass(trail: Trail, array: &mut [u8; FRAME_ROOM], b: u8) -> Trail
 {
     let before = trail.reader;
     let taken = reader::take_byte(Way::ToDevice, before, array, b);
-    let reader = taken.reader;
-    let heard = taken.heard;
     Trail {
-        reader,
-        offset: counted(trail.offset),
-        start: start_behind(trail.offset, trail.start, b),
-        skipped: skipped_behind(heard, before, trail.skipped, b),
+        reader: taken.reader,
+        offset: trail.offset.saturating_add(1),
+        start: if b == 0x01 { trail.offset } else { trail.start },
+        skipped: skipped_behind(taken.heard, before, trail.skipped, b),
     }
 }
 
-// One more; the largest number stays, which no recording reaches.
-fn counted(n: u64) -> u64
-    ensures { result ≡ counted n }
-{
-    if n == 0xFFFFFFFFFFFFFFFF {
-        return n;
-    }
-    n + 1
-}
-
-// The offset of the last 01h.
-fn start_behind(offset: u64, start: u64, b: u8) -> u64
-    ensures { result ≡ cond (eqb b 0x01) offset start }
-{
-    if b == 0x01 {
-        return offset;
-    }
-    start
-}
-
-// The bytes outside frames, once b has come: none behind a frame, whole or broken.
+// The bytes outside frames, once b has come: none behind a frame, whole or broken. The largest number stays, which no recording reaches.
 fn skipped_behind(heard: Heard, before: Reader, skipped: u64, b: u8) -> u64
     ensures { result ≡ skipped_behind heard before skipped b }
 {
-    match heard {
-        Heard::Nothing => skipped_by(before.inside, before.count, skipped, b),
-        Heard::Broken => 0,
-        Heard::Whole {
-            seq: _,
-            code: _,
-            count: _,
-        } => 0,
+    if heard != Heard::Nothing {
+        return 0;
     }
-}
-
-fn skipped_by(inside: bool, count: u8, skipped: u64, b: u8) -> u64
-    ensures { result ≡ skipped_by inside count skipped b }
-{
-    if !inside {
-        if b == 0x01 {
-            return skipped;
-        }
-        return counted(skipped);
+    let start = b == 0x01;
+    let skips = if before.inside {
+        before.count == 0 && start
+    } else {
+        !start
+    };
+    if skips {
+        skipped.saturating_add(1)
+    } else {
+        skipped
     }
-    if count != 0 {
-        return skipped;
-    }
-    if b == 0x01 {
-        return counted(skipped);
-    }
-    skipped
 }
 
 // Some bytes further.
@@ -107,11 +72,8 @@ pub fn follow(trail: Trail, array: &mut [u8; FRAME_ROOM], bytes: &[u8]) -> Trail
     ensures { record { trail = result; array = array.new } ≡ followed trail array.old bytes.now }
 {
     let mut at = trail;
-    let mut i = 0;
-    while i < bytes.len() {
-        let next = pass(at, array, bytes[i]);
-        at = next;
-        i += 1;
+    for b in bytes {
+        at = pass(at, array, *b);
     }
     at
 }

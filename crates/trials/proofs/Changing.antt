@@ -9,8 +9,8 @@ use lib.ListN.{length, take, length-set}
 use lib.Seq.{length-sets, get_or-set_same, get_or-set_other}
 use borrow.Author.Tests.{eqb-true, eqb-false}
 use Rattle.kinds.specs.Operators.{is_op, name_in}
-use Rattle.kinds.specs.declared.Parsed.{Parsed}
-use Rattle.kinds.specs.declared.Parsed.TheVariants.{Read, Syntax, Unknown}
+use Rattle.kinds.specs.Fields.{Parsed}
+use Rattle.std.specs.Prelude.{Ok, Err}
 use Rattle.kinds.specs.declared.Password.{Password}
 use Rattle.guard.proofs.Verdicts.{op_from, op_to}
 use Rattle.guard.specs.Guard.{fresh_guard, password_of, is_locked, is_right, with_count, calmed, with_password, with_name, trial_of, tried, verdict_of, passes, changed_by, count_after, judged_of, judged_by}
@@ -27,10 +27,10 @@ apart of op is-of is-op e same =
 
 -- the lengths stay
 pub fresh_wide : Wide fresh_guard
-fresh_wide = record { digits = refl; values = refl; sizes = refl; names = refl }
+fresh_wide = record { passwords = refl; sizes = refl; names = refl }
 
 pub count_wide : (g : Guard) → Wide g → (n : ℕ) → Wide (with_count g n)
-count_wide g w n = record { digits = w.digits; values = w.values; sizes = w.sizes; names = w.names }
+count_wide g w n = record { passwords = w.passwords; sizes = w.sizes; names = w.names }
 
 pub calmed_wide : (g : Guard) → Wide g → Wide (calmed g)
 calmed_wide g w = count_wide g w 0
@@ -42,13 +42,13 @@ either_wide false u w = w
 password_wide : (g : Guard) → Wide g → (op : ℕ) (new : Password) → Wide (with_password g op new)
 password_wide g w op new =
     either_wide (is_op op)
-    (record { digits = length-set g.digits (op - 1) new.digits ∙ w.digits; values = length-set g.values (op - 1) new.value ∙ w.values; sizes = w.sizes; names = w.names })
+    (record { passwords = length-set g.passwords (op - 1) new ∙ w.passwords; sizes = w.sizes; names = w.names })
     w
 
 name_wide : (g : Guard) → Wide g → (op : ℕ) (name : List ℕ) → Wide (with_name g op name)
 name_wide g w op name =
     either_wide (is_op op)
-    (record { digits = w.digits; values = w.values; sizes = length-set g.sizes (op - 1) (length (take 24 name)) ∙ w.sizes; names = length-sets g.names (24 * (op - 1)) (take 24 name) ∙ w.names })
+    (record { passwords = w.passwords; sizes = length-set g.sizes (op - 1) (length (take 24 name)) ∙ w.sizes; names = length-sets g.names (24 * (op - 1)) (take 24 name) ∙ w.names })
     w
 
 changed_wide : (g : Guard) → Wide g → (t : Trial) (content : List ℕ) → Wide (changed_by g t content)
@@ -58,12 +58,11 @@ changed_wide g w (trial.Open op password) content = w
 changed_wide g w trial.Nothing content = w
 
 pub judged_wide : (g : Guard) → Wide g → (p : Parsed) (content : List ℕ) → Wide (judged_by g p content).guard
-judged_wide g w (Read c) content =
+judged_wide g w (Ok c) content =
     let t = trial_of c in
     let v = verdict_of g t in
     count_wide (cond (passes v) (changed_by g t content) g) (either_wide (passes v) (changed_wide g w t content) w) (count_after g v)
-judged_wide g w Syntax content = w
-judged_wide g w Unknown content = w
+judged_wide g w (Err why) content = w
 
 -- the verdict, as it is asked for in the statement
 pub passes_as : (locked right : Bool) → passes (cond locked Locked (cond right Right Wrong)) ≡ not locked && right
@@ -76,7 +75,7 @@ put_own : (g : Guard) → Wide g → (op : ℕ) → is_op op ≡ true → (new :
 put_own g w op is new =
     let low = op_from op is in
     let high = op_to op is in
-    rw (is, get_or-set_same g.digits (op - 1) new.digits 0 (omega (arith, w.digits, low, high)), get_or-set_same g.values (op - 1) new.value 0 (omega (arith, w.values, low, high)))
+    rw (is, get_or-set_same g.passwords (op - 1) new _ (omega (arith, w.passwords, low, high)))
 
 put_other : (g : Guard) (of op : ℕ) → is_op op ≡ true → eqb of op ≡ false → (new : Password) → password_of (with_password g of new) op ≡ password_of g op
 put_other g of op is e new = go (is_op of) refl
@@ -84,7 +83,7 @@ put_other g of op is e new = go (is_op of) refl
     go : (b : Bool) → is_op of ≡ b → password_of (with_password g of new) op ≡ password_of g op
     go true is-of =
         let h = apart of op is-of is e in
-        rw (is-of, get_or-set_other g.digits (of - 1) (op - 1) new.digits 0 h, get_or-set_other g.values (of - 1) (op - 1) new.value 0 h)
+        rw (is-of, get_or-set_other g.passwords (of - 1) (op - 1) new _ h)
     go false none = rw none
 
 put_password : (g : Guard) → Wide g → (of op : ℕ) → is_op op ≡ true → (new : Password) → password_of (with_password g of new) op ≡ cond (eqb of op) new (password_of g op)
@@ -137,9 +136,8 @@ by_trial g w op is (trial.Open of password) content =
 
 -- PROTOCOL 5.18: a password is what it was, but behind a 101 of its operator with the old one
 pub a_password_changes_only_by_101 : (g : Guard) → Wide g → (op : ℕ) → is_op op ≡ true → (p : Parsed) (content : List ℕ) → password_of (judged_by g p content).guard op ≡ password_after g op p
-a_password_changes_only_by_101 g w op is (Read c) content = by_trial g w op is (trial_of c) content
-a_password_changes_only_by_101 g w op is Syntax content = refl
-a_password_changes_only_by_101 g w op is Unknown content = refl
+a_password_changes_only_by_101 g w op is (Ok c) content = by_trial g w op is (trial_of c) content
+a_password_changes_only_by_101 g w op is (Err why) content = refl
 
 -- PROTOCOL 5.20: a password that does not pass leaves no more than the count
 pub only_the_count : (g : Guard) (t : Trial) (content : List ℕ) → passes (verdict_of g t) ≡ false → (judged_of g t content).guard ≡ with_count g (count_after g (verdict_of g t))

@@ -6,8 +6,8 @@ use Prim.Native.Nat.{ℕ, zero, suc, ◌+◌, ◌≤◌}
 use native.Mathlib.Omega.{arith}
 use lib.Dec.{leb}
 use borrow.Author.Tests.{le-leb}
-use Rattle.kinds.specs.declared.Parsed.{Parsed}
-use Rattle.kinds.specs.declared.Parsed.TheVariants.{Read, Syntax, Unknown}
+use Rattle.kinds.specs.Fields.{Parsed}
+use Rattle.std.specs.Prelude.{Ok, Err}
 use Rattle.guard.specs.Guard.{is_locked, is_right, trial_of, verdict_of, judged_by, count_after}
 use Rattle.trials.specs.Tries.{Came, Tried, none, right, wrong, tried_by, tried_in, guard_behind, tries_from, BeginsWrong, no_more, passed_by, one_more_lem, ThreeWrong, from_here, later}
 use Rattle.guard.specs.declared.Guard.{Guard}
@@ -42,9 +42,8 @@ by_trial g (trial.Change op old new) = by_verdict g (is_locked g) (is_right g op
 by_trial g (trial.Name op p) = by_verdict g (is_locked g) (is_right g op p)
 
 counts : (g : Guard) (p : Parsed) (content : List ℕ) → (judged_by g p content).guard.wrong ≡ counted g.wrong (tried_in g p)
-counts g (Read c) content = by_trial g (trial_of c)
-counts g Syntax content = sym (same_either (is_locked g) g.wrong)
-counts g Unknown content = sym (same_either (is_locked g) g.wrong)
+counts g (Ok c) content = by_trial g (trial_of c)
+counts g (Err why) content = sym (same_either (is_locked g) g.wrong)
 
 all_counted : (g : Guard) (cs : List Came) → (guard_behind g cs).wrong ≡ count_behind g.wrong (tries_from g cs)
 all_counted g [] = refl

@@ -1,4 +1,5 @@
 -- A name changes by a 102 of its operator alone, and only with the password that stands.
+use Rattle.std.proofs.lemmas.Bool.{and_parts}
 use mathlib.Core.Path.{◌≡◌, refl, ap, ◌∙◌}
 use mathlib.Core.Bool.{Bool, true, false, cond, not, ◌&&◌, false≢true}
 use mathlib.Core.List.{List, [], ◌∷◌, ◌++◌, append_assoc}
@@ -9,16 +10,15 @@ use lib.Dec.{leb, eqb}
 use lib.ListN.{length, get_or, set, take, drop, replicate, length-take}
 use lib.Seq.{sets, sets-eq, get_or-set_same, get_or-set_other, take_all, take-set-le, drop-set-add, take-append_seam, drop_at, length-take-le}
 use borrow.Author.Tests.{leb-true, eqb-true}
-use Rattle.basics.proofs.Tests.{both}
 use Rattle.text.proofs.Laws.{drop-sets}
 use Rattle.text.specs.Parts.{every, has, up_to, past}
 use Rattle.figures.specs.Numbers.{field_of, field_number, field_value}
 use Rattle.labels.specs.Texts.{is_name}
-use Rattle.kinds.specs.Fields.{ends_or, comma}
+use Rattle.kinds.specs.Fields.{ends_or, comma, Parsed}
 use Rattle.kinds.specs.Operators.{is_op, secret_of, password_as, name_with, with_third, operators_of, name_in}
 use Rattle.kinds.specs.declared.Command.TheVariants.{ChangeName}
-use Rattle.kinds.specs.declared.Parsed.{Parsed}
-use Rattle.kinds.specs.declared.Parsed.TheVariants.{Read, Syntax, Unknown}
+use Rattle.std.specs.Prelude.{Ok, Err}
+use Rattle.kinds.specs.declared.Unread.TheVariants.{Syntax, Unknown}
 use Rattle.kinds.specs.declared.Password.{Password}
 use Rattle.kinds.specs.declared.operators.Third.TheVariants as third
 use Rattle.guard.proofs.Verdicts.{op_from, op_to}
@@ -66,12 +66,11 @@ changed_short g s (trial.Open op password) content = s
 changed_short g s trial.Nothing content = s
 
 pub judged_short : (g : Guard) → Short g → (p : Parsed) (content : List ℕ) → Short (judged_by g p content).guard
-judged_short g s (Read c) content =
+judged_short g s (Ok c) content =
     let t = trial_of c in
     let v = verdict_of g t in
     count_short (cond (passes v) (changed_by g t content) g) (either_short (passes v) (changed_short g s t content) s) (count_after g v)
-judged_short g s Syntax content = s
-judged_short g s Unknown content = s
+judged_short g s (Err why) content = s
 
 -- a run that begins behind a part leaves the part
 part_set : (n j : ℕ) (l : List ℕ) (i v : ℕ) → j + n ≤ i → take n (drop j (set l i v)) ≡ take n (drop j l)
@@ -161,21 +160,19 @@ by_trial g w s op is (trial.Open of password) content =
 
 -- PROTOCOL 5.19: a name is what it was, but behind a 102 of its operator with the password
 pub a_name_changes_only_by_102 : (g : Guard) → Wide g → Short g → (op : ℕ) → is_op op ≡ true → (p : Parsed) (content : List ℕ) → name_of (judged_by g p content).guard op ≡ name_after g op p content
-a_name_changes_only_by_102 g w s op is (Read c) content = by_trial g w s op is (trial_of c) content
-a_name_changes_only_by_102 g w s op is Syntax content = refl
-a_name_changes_only_by_102 g w s op is Unknown content = refl
+a_name_changes_only_by_102 g w s op is (Ok c) content = by_trial g w s op is (trial_of c) content
+a_name_changes_only_by_102 g w s op is (Err why) content = refl
 
 -- what was read, was of the form
 abbrev is_read : Parsed → Bool
-is_read (Read c) = true
-is_read Syntax = false
-is_read Unknown = false
+is_read (Ok c) = true
+is_read (Err why) = false
 
-read_so : (b : Bool) (x : Parsed) → is_read (cond b x Syntax) ≡ true → (b ≡ true) × (is_read x ≡ true)
+read_so : (b : Bool) (x : Parsed) → is_read (cond b x (Err Syntax)) ≡ true → (b ≡ true) × (is_read x ≡ true)
 read_so true x e = (refl, e)
 read_so false x e = absurd (false≢true e)
 
-went_on : (b d : Bool) (x : Parsed) → is_read (cond b x (cond d Syntax Unknown)) ≡ true → is_read x ≡ true
+went_on : (b d : Bool) (x : Parsed) → is_read (cond b x (cond d (Err Syntax) (Err Unknown))) ≡ true → is_read x ≡ true
 went_on true d x e = e
 went_on false true x e = absurd (false≢true e)
 went_on false false x e = absurd (false≢true e)
@@ -184,18 +181,18 @@ name_so : (op pwd name : List ℕ) → is_read (with_third third.Name op pwd nam
 name_so op pwd name e =
     let o = field_value (field_of 1 op) in
     let p = password_as pwd (field_value (secret_of pwd)) in
-    let last = cond (is_op o) (name_with o p name) Syntax in
+    let last = cond (is_op o) (name_with o p name) (Err Syntax) in
     let inner = ends_or (field_number (secret_of pwd)) last in
     let e1 = went_on (eqb (field_number (field_of 1 op)) 0) (eqb (field_number (field_of 1 op)) 1) inner e in
     let e2 = went_on (eqb (field_number (secret_of pwd)) 0) (eqb (field_number (secret_of pwd)) 1) last e1 in
-    (read_so (is_name name) (Read (ChangeName o p)) (read_so (is_op o) (name_with o p name) e2).1).0
+    (read_so (is_name name) (Ok (ChangeName o p)) (read_so (is_op o) (name_with o p name) e2).1).0
 
 -- PROTOCOL 5.19: so nothing of a name that was read is cut
-pub a_name_read_fits : (content : List ℕ) (op : ℕ) (p : Password) → operators_of third.Name content ≡ Read (ChangeName op p) → take 24 (name_in content) ≡ name_in content
+pub a_name_read_fits : (content : List ℕ) (op : ℕ) (p : Password) → operators_of third.Name content ≡ Ok (ChangeName op p) → take 24 (name_in content) ≡ name_in content
 a_name_read_fits content op p e =
     let rest = past comma content in
     let name = name_in content in
     let form = with_third third.Name (up_to comma content) (up_to comma rest) name in
     let read = (read_so (has comma content && has comma rest) form (ap is_read e)).1 in
     let fits = name_so (up_to comma content) (up_to comma rest) name read in
-    take_all 24 name (leb-true (length name) 24 (both (leb (length name) 24) (every (leb 0x20) name) fits).0)
+    take_all 24 name (leb-true (length name) 24 (and_parts (leb (length name) 24) (every (leb 0x20) name) fits).0)

@@ -1,8 +1,7 @@
 -- PROTOCOL 5.18, 5.19: what becomes of passwords and names with one command: told from the command and from what stood before it.
-use Rattle.std.specs.Prelude.{ℕ, ◌≤◌, ◌≡◌, Bool, cond, not, ◌&&◌, List, eqb, length, get_or, take}
+use Rattle.std.specs.Prelude.{ℕ, ◌≤◌, ◌≡◌, Bool, cond, not, ◌&&◌, List, eqb, length, get_or, take, Ok, Err}
 use Rattle.kinds.specs.Operators.{name_in}
-use Rattle.kinds.specs.declared.Parsed.{Parsed}
-use Rattle.kinds.specs.declared.Parsed.TheVariants.{Read, Syntax, Unknown}
+use Rattle.kinds.specs.Fields.{Parsed}
 use Rattle.kinds.specs.declared.Password.{Password}
 use Rattle.guard.specs.Guard.{password_of, name_of, is_right, is_locked, trial_of}
 use Rattle.guard.specs.declared.Guard.{Guard}
@@ -11,8 +10,7 @@ use Rattle.guard.specs.declared.Trial.TheVariants as trial
 
 -- what the types say: eight passwords, eight names, and 24 bytes for each
 pub record Wide (g : Guard) : Type 0 where
-  pub digits : length g.digits ≡ 8
-  pub values : length g.values ≡ 8
+  pub passwords : length g.passwords ≡ 8
   pub sizes : length g.sizes ≡ 8
   pub names : length g.names ≡ 192
 
@@ -32,9 +30,8 @@ password_by g op (trial.Open of password) = password_of g op
 password_by g op trial.Nothing = password_of g op
 
 abbrev pub password_after : Guard → (op : ℕ) → Parsed → Password
-password_after g op (Read c) = password_by g op (trial_of c)
-password_after g op Syntax = password_of g op
-password_after g op Unknown = password_of g op
+password_after g op (Ok c) = password_by g op (trial_of c)
+password_after g op (Err why) = password_of g op
 
 -- PROTOCOL 5.19: only a 102 of this operator, with the password given, changes a name, and that into the one in its data
 abbrev pub name_by : Guard → (op : ℕ) → Trial → (content : List ℕ) → List ℕ
@@ -44,6 +41,5 @@ name_by g op (trial.Open of password) content = name_of g op
 name_by g op trial.Nothing content = name_of g op
 
 abbrev pub name_after : Guard → (op : ℕ) → Parsed → (content : List ℕ) → List ℕ
-name_after g op (Read c) content = name_by g op (trial_of c) content
-name_after g op Syntax content = name_of g op
-name_after g op Unknown content = name_of g op
+name_after g op (Ok c) content = name_by g op (trial_of c) content
+name_after g op (Err why) content = name_of g op

@@ -1,7 +1,6 @@
 -- PROTOCOL 5.20: when the device is locked, told from the commands that it carried out, the oldest first, and from nothing that it counts.
-use Rattle.std.specs.Prelude.{ℕ, suc, cond, List, [], ◌∷◌}
-use Rattle.kinds.specs.declared.Parsed.{Parsed}
-use Rattle.kinds.specs.declared.Parsed.TheVariants.{Read, Syntax, Unknown}
+use Rattle.std.specs.Prelude.{ℕ, suc, cond, List, [], ◌∷◌, Ok, Err}
+use Rattle.kinds.specs.Fields.{Parsed}
 use Rattle.guard.specs.Guard.{is_right, trial_of, of_trial, judged_by}
 use Rattle.guard.specs.declared.Guard.{Guard}
 use Rattle.guard.specs.declared.Trial.{Trial}
@@ -21,9 +20,8 @@ abbrev pub tried_by : Guard → Trial → Tried
 tried_by g t = of_trial none (λ op password. cond (is_right g op password) right wrong) t
 
 abbrev pub tried_in : Guard → Parsed → Tried
-tried_in g (Read c) = tried_by g (trial_of c)
-tried_in g Syntax = none
-tried_in g Unknown = none
+tried_in g (Ok c) = tried_by g (trial_of c)
+tried_in g (Err why) = none
 
 -- the guard behind a list of commands, and what each of them tried
 abbrev pub guard_behind : Guard → List Came → Guard

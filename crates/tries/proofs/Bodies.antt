@@ -1,4 +1,5 @@
 -- The bytes of a frame behind 01h: where 01h and 03h stand, and when two of them are one. For commands and answers alike.
+use Rattle.std.proofs.lemmas.Bool.{and_parts}
 use mathlib.Core.Path.{◌≡◌, refl, sym, ap, ◌∙◌, subst}
 use mathlib.Core.Bool.{Bool, true, false, ◌||◌}
 use mathlib.Core.Logic.{◌⊎◌, ⊎_elim}
@@ -14,7 +15,7 @@ use Rattle.wire.specs.declared.Way.{Way}
 use Rattle.wire.specs.declared.Way.TheVariants.{ToDevice, ToTill}
 use Rattle.wire.specs.declared.Role.TheVariants.{Name, Data, Status}
 use Rattle.text.proofs.Laws.{empty}
-use Rattle.wire.proofs.Suits.{both, behind_small}
+use Rattle.wire.proofs.Suits.{behind_small}
 use Rattle.reader.proofs.RoundTrip.{Parts, parts, length-inner}
 use Rattle.tries.proofs.Lists.{Free, free_join, free_test, free_every, only_last, cut_same, total_join, OneOff, InFirst, InSecond, off_back, off_length, off_total, off_same, off_parts, off_some, overlap, last_of, snoc_same}
 
@@ -30,7 +31,7 @@ body k m = core k m ++ check k m ++ 0x03 ∷ []
 
 -- bounds
 at_most_lem : (lowest b : ℕ) → within lowest 0xFF b ≡ true → b ≤ 255
-at_most_lem lowest b e = leb-true b 0xFF (both (leb lowest b) (leb b 0xFF) e).1
+at_most_lem lowest b e = leb-true b 0xFF (and_parts (leb lowest b) (leb b 0xFF) e).1
 
 data_most : (b : ℕ) → may_stand Data b ≡ true → b ≤ 255
 data_most b = go (eqb b 0x09) refl (eqb b 0x0A) refl (eqb b 0x10) refl
@@ -44,7 +45,7 @@ data_most b = go (eqb b 0x09) refl (eqb b 0x0A) refl (eqb b 0x10) refl
 total_most : (t : ℕ → Bool) → ((x : ℕ) → t x ≡ true → x ≤ 255) → (xs : List ℕ) → every t xs ≡ true → total xs ≤ 255 * length xs
 total_most t most [] e = omega arith
 total_most t most (x ∷ xs) e =
-    let two = both (t x) (every t xs) e in
+    let two = and_parts (t x) (every t xs) e in
     omega (arith, most x two.0, total_most t most xs two.1)
 
 -- of what stands between CMD and 05h

@@ -1,4 +1,5 @@
 -- Lists of bytes: one byte that stands nowhere, and two lists that differ in exactly one place.
+use Rattle.std.proofs.lemmas.Bool.{and_parts}
 use mathlib.Core.Path.{◌≡◌, refl, sym, ap, ◌∙◌, subst}
 use mathlib.Core.Bool.{Bool, true, false, false≢true}
 use mathlib.Core.Logic.{◌⊎◌, ⊎_elim, inl, inr}
@@ -8,7 +9,6 @@ use native.Mathlib.Omega.{arith}
 use lib.ListN.{length, get_or, set, replicate}
 use Rattle.wire.specs.Bytes.{every}
 use Rattle.wire.specs.Frame.{total}
-use Rattle.wire.proofs.Suits.{both}
 
 -- v stands nowhere in the list
 abbrev pub Free : ℕ → List ℕ → Type 0
@@ -34,7 +34,7 @@ free_test v t n x e q = false≢true (sym n ∙ ap t (sym q) ∙ e)
 pub free_every : (v : ℕ) (t : ℕ → Bool) → t v ≡ false → (xs : List ℕ) → every t xs ≡ true → Free v xs
 free_every v t n [] e = tt
 free_every v t n (x ∷ xs) e =
-    (free_test v t n x (both (t x) (every t xs) e).0, free_every v t n xs (both (t x) (every t xs) e).1)
+    (free_test v t n x (and_parts (t x) (every t xs) e).0, free_every v t n xs (and_parts (t x) (every t xs) e).1)
 
 -- the last place of v, if it stands nowhere before the last place
 pub only_last : (v : ℕ) (xs : List ℕ) → Free v xs → (u w : List ℕ) → xs ++ v ∷ [] ≡ u ++ v ∷ w → w ≡ []

@@ -1,4 +1,5 @@
 -- One try: what reading makes of it is what `brings` and `leaves` say. For commands and answers alike.
+use Rattle.std.proofs.lemmas.Bool.{and_parts}
 use mathlib.Core.Path.{◌≡◌, refl, sym, ap, ◌∙◌, subst}
 use mathlib.Core.Bool.{Bool, true, false, cond, not, ◌&&◌}
 use mathlib.Core.List.{List, [], ◌∷◌, ◌++◌, append_assoc, append-nil, tail-eq_of_cons-eq}
@@ -10,7 +11,6 @@ use lib.Seq.{split_at, set_split, set-append_left, set_at, drop-append-le}
 use borrow.Author.Tests.{eqb-true, eqb-false, eq-eqb, ltb-true, ltb-false, lt-ltb, le-ltb, ne_eqb, not-true}
 use Rattle.wire.specs.Frame.{Message, inner, frame, sendable}
 use Rattle.wire.specs.declared.Way.{Way}
-use Rattle.wire.proofs.Suits.{both}
 use Rattle.reader.specs.Reading.{Place, outside, inside, Event, nothing, broken_frame, heard, read, starts_anew, Run, run}
 use Rattle.reader.proofs.Walking.{run_first, run_append}
 use Rattle.reader.proofs.RoundTrip.{read_what_was_built}
@@ -254,7 +254,7 @@ module _ (k : Way) (m n : Message) (cm : sendable k m ≡ true) (cn : sendable k
         (λ w v cw q. apart (joined k m n w cm cn cw ahead (get_or (body k n) c 0) lacks in_two x v q)) (x ∷ body k m) ahead refl
       where
         apart : (x ≡ 0x03) × (lacks ≡ []) → ⊥
-        apart both = other (both.0, omega (arith, ap length both.1, length-drop (suc c) (body k n)))
+        apart and_parts = other (and_parts.0, omega (arith, ap length and_parts.1, length-drop (suc c) (body k n)))
 
     news-joined : news (run k place (x ∷ body k m)).events ≡ broken_frame ∷ []
     news-joined =
@@ -316,12 +316,12 @@ module _ (k : Way) (m : Message) (can : sendable k m ≡ true) where
           ∙ ap (λ t. told (t && eqb (suc c + 1) (length (frame k n)))) (sym es))
           (ap (λ (z : Run). z.place) r)
       go true es false et =
-          let other : (x ≡ 0x03) × (suc c + 1 ≡ length (frame k n)) → ⊥ = λ both. eqb-false (suc c + 1) (length (frame k n)) et both.1 in
+          let other : (x ≡ 0x03) × (suc c + 1 ≡ length (frame k n)) → ⊥ = λ and_parts. eqb-false (suc c + 1) (length (frame k n)) et and_parts.1 in
           lost-start x ne (begun n (suc c))
           (news-joined k m n can f.0 c f.2 x ne other ∙ ap (λ t. told (true && t)) (sym et) ∙ ap (λ t. told (t && eqb (suc c + 1) (length (frame k n)))) (sym es))
           (place_after k m n can f.0 c f.2 x ne other)
       go false es t et =
-          let other : (x ≡ 0x03) × (suc c + 1 ≡ length (frame k n)) → ⊥ = λ both. eqb-false x 0x03 es both.0 in
+          let other : (x ≡ 0x03) × (suc c + 1 ≡ length (frame k n)) → ⊥ = λ and_parts. eqb-false x 0x03 es and_parts.0 in
           lost-start x ne (begun n (suc c))
           (news-joined k m n can f.0 c f.2 x ne other ∙ ap (λ t. told (t && eqb (suc c + 1) (length (frame k n)))) (sym es))
           (place_after k m n can f.0 c f.2 x ne other)
@@ -333,7 +333,7 @@ module _ (k : Way) (m : Message) (can : sendable k m ≡ true) where
   try_read (replaced at byte) e = go at (ltb-true at (length (frame k m)) two.0) (eqb-false byte (get_or (frame k m) at 0) (not-true (eqb byte (get_or (frame k m) at 0)) two.1))
     where
       two : (ltb at (length (frame k m)) ≡ true) × (not (eqb byte (get_or (frame k m) at 0)) ≡ true)
-      two = both (ltb at (length (frame k m))) (not (eqb byte (get_or (frame k m) at 0))) e
+      two = and_parts (ltb at (length (frame k m))) (not (eqb byte (get_or (frame k m) at 0))) e
 
       go : (i : ℕ) → i < length (frame k m) → (byte ≡ get_or (frame k m) i 0 → ⊥) → (b : Begun) → Fits k b → TryRead k b m (replaced i byte)
       go zero h ne = lost-start-read byte ne

@@ -4,19 +4,15 @@ use mathlib.Core.Path.{◌≡◌, refl, sym, ap, ◌∙◌}
 use mathlib.Core.Bool.{Bool}
 use mathlib.Core.List.{List, [], ◌∷◌, ◌++◌}
 use native.Mathlib.Omega.{arith}
-use lib.ListN.{length, take, drop, get_or, length-drop, drop_of_length-le}
+use lib.ListN.{length, drop, length-drop, drop_of_length-le}
 use lib.Seq.{drop-drop}
 use Rattle.text.specs.Parts.{first_at, up_to, past}
-use Rattle.text.proofs.Cutting.{place_within, cut_length, to_end}
-use Rattle.words.specs.Fields.{field_word, paid_word}
+use Rattle.text.proofs.Cutting.{place_within, cut_length}
+use Rattle.words.specs.Fields.{field_word}
 use Rattle.entries.specs.Entries.{letters_text}
-use Rattle.unfolding.specs.Answers.{fields_text, paid_text}
+use Rattle.unfolding.specs.Answers.{fields_text}
 
--- the field that begins at a place, and how long it is at most
-pub field_as : (l : List ℕ) (from n : ℕ) → n ≡ first_at 0x2C (take (length l - from) (drop from l))
-    → take n (take (length l - from) (drop from l)) ≡ up_to 0x2C (drop from l)
-field_as l from n e = ap (λ k. take k (take (length l - from) (drop from l))) e ∙ ap (up_to 0x2C) (to_end from l)
-
+-- how long a field is at most
 field_length : (rest field : List ℕ) → field ≡ up_to 0x2C rest → length field ≡ first_at 0x2C rest
 field_length rest field e = ap length e ∙ sym (cut_length 0x2C rest (first_at 0x2C rest) refl)
 
@@ -52,14 +48,3 @@ module _ (html : Bool) (code : ℕ) where
 
   pub fields_done : (more i : ℕ) (l : List ℕ) (from : ℕ) → length l ≤ from → fields_text more html code i (drop from l) ≡ []
   fields_done more i l from h = ap (fields_text more html code i) (drop_of_length-le l h) ∙ none more i
-
--- a letter and a sum
-pub paid_none : (html : Bool) (l : List ℕ) → length l ≡ 0 → [] ≡ paid_text html l
-paid_none html [] h = refl
-paid_none html (b ∷ bs) h = absurd (omega arith)
-
-pub paid_some : (html : Bool) (l word : List ℕ) → (length l ≡ 0 → ⊥) → word ≡ paid_word (get_or l 0 0)
-    → letters_text html word (take (length l - 1) (drop 1 l)) ≡ paid_text html l
-paid_some html [] word h e = absurd (h refl)
-paid_some html (b ∷ bs) word h e =
-    ap (letters_text html word) (to_end 1 (b ∷ bs)) ∙ ap (λ w. letters_text html w bs) e

@@ -1,5 +1,5 @@
 -- EXPLAIN 2: an answer, its fields by name, and the status bits that are set and not always so.
-use Rattle.std.specs.Prelude.{ℕ, zero, suc, ◌+◌, ◌-◌, ◌/◌, ◌%◌, Bool, cond, List, [], ◌∷◌, ◌++◌, eqb, ltb, length, take, drop, get_or}
+use Rattle.std.specs.Prelude.{ℕ, zero, suc, ◌+◌, ◌-◌, ◌/◌, ◌%◌, Bool, cond, List, [], ◌∷◌, ◌++◌, eqb, ltb, length, take, drop}
 use Rattle.letters.specs.Letters.{bytes}
 use Rattle.text.specs.Parts.{up_to, past}
 use Rattle.writing.specs.Words.{is}

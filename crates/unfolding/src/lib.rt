@@ -9,7 +9,6 @@ ghost use Rattle.sentences.specs.Put.{Put};
 ghost use Rattle.entries.specs.Entries.{letters_text};
 ghost use Rattle.unfolding.specs.Answers.{given_text, fields_text, paid_text, content_text, named_text, flag_text, bits_text, flags_text, status_text, answer_text};
 
-use basics::least_size;
 use entries::{put_bytes, put_field};
 use items::Label;
 use sentences::{front, put};
@@ -42,13 +41,11 @@ pub fn put_answer(buf: &mut [u8], at: usize, html: bool, code: u8, given: &[u8])
 fn put_content(buf: &mut [u8], at: usize, html: bool, code: u8, content: &[u8]) -> usize
     ensures { Put buf.old at (content_text html code content.now) buf.new result }
 {
-    if code == 74 {
-        return put(buf, at, b"");
+    match code {
+        74 => put(buf, at, b""),
+        53 => put_paid(buf, at, html, content),
+        _ => put_fields(buf, at, html, code, content),
     }
-    if code == 53 {
-        return put_paid(buf, at, html, content);
-    }
-    put_fields(buf, at, html, code, content)
 }
 
 // A letter and a sum.
@@ -67,7 +64,7 @@ fn put_paid(buf: &mut [u8], at: usize, html: bool, content: &[u8]) -> usize
 fn put_fields(buf: &mut [u8], at: usize, html: bool, code: u8, content: &[u8]) -> usize
     ensures { Put buf.old at (fields_text (length content.now) html code 0 content.now) buf.new result }
 {
-    let mut place = least_size(at, buf.len());
+    let mut place = at.min(buf.len());
     let mut from = 0;
     let mut i = 0;
     while from < content.len() {
@@ -109,11 +106,9 @@ fn put_status(buf: &mut [u8], at: usize, html: bool, six: &[u8]) -> usize
 fn put_flags(buf: &mut [u8], at: usize, html: bool, six: &[u8]) -> usize
     ensures { Put buf.old at (flags_text html 0 six.now) buf.new result }
 {
-    let mut end = least_size(at, buf.len());
-    let mut i = 0;
-    while i < six.len() {
-        end = put_bits(buf, end, html, i, six[i]);
-        i += 1;
+    let mut end = at.min(buf.len());
+    for (i, &byte) in six.iter().enumerate() {
+        end = put_bits(buf, end, html, i, byte);
     }
     end
 }
@@ -122,13 +117,11 @@ fn put_flags(buf: &mut [u8], at: usize, html: bool, six: &[u8]) -> usize
 fn put_bits(buf: &mut [u8], at: usize, html: bool, place: usize, byte: u8) -> usize
     ensures { Put buf.old at (bits_text html 7 0 place byte) buf.new result }
 {
-    let mut end = least_size(at, buf.len());
+    let mut end = at.min(buf.len());
     let mut above = byte;
-    let mut bit: usize = 0;
-    while bit < 7 {
+    for bit in 0..7 {
         end = put_flag(buf, end, html, above % 2 == 1, place, bit);
         above /= 2;
-        bit += 1;
     }
     end
 }

@@ -1,30 +1,22 @@
 -- Laws of building a frame.
+use Rattle.std.proofs.lemmas.Bool.{and_parts}
 use mathlib.Core.Path.{◌≡◌, refl, sym, ap, ◌∙◌}
 use mathlib.Core.Bool.{true, false, ◌&&◌}
 use mathlib.Core.List.{List, [], ◌∷◌, ◌++◌, append_assoc}
 use Prim.Native.Nat.{ℕ, suc, ◌+◌, ◌-◌, ◌/◌, ◌%◌, ◌≤◌, ◌<◌}
-use native.Mathlib.Numerals.{add-one}
 use native.Mathlib.Omega.{arith}
 use lib.Dec.{leb}
-use lib.ListN.{length, get_or, take, drop, set, length-append, length-drop, drop_of_length-le}
-use lib.Seq.{sets, sets-eq, drop-cons, take_at, drop_at, length-take-le}
+use lib.ListN.{length, take, drop, set, length-append, length-drop}
+use lib.Seq.{sets, sets-eq, take_at, drop_at, length-take-le}
 use borrow.Author.Tests.{lt-ltb, le-ltb, lt-leb, le-leb, leb-true}
 use Rattle.text.proofs.Laws.{sets-append, sets_same, sets_over}
-use Rattle.wire.proofs.Suits.{both, &&-true, &&-false}
+use Rattle.wire.proofs.Suits.{&&-true, &&-false}
 use Rattle.wire.specs.Bytes.{may_stand, every}
 use Rattle.wire.specs.Frame.{Message, command_of, answer_of, total, bcc, hexadecimal, counted, enclosed, frame, sendable, carriable}
 use Rattle.wire.specs.Replies.{room, building, sealing}
 use Rattle.wire.specs.declared.Way.{Way}
 use Rattle.wire.specs.declared.Way.TheVariants.{ToDevice, ToTill}
 use Rattle.wire.specs.declared.Role.TheVariants.{Name, Data, Status}
-
--- the sum of a part, from the front on
-pub sum_turn : (xs : List ℕ) (i sum : ℕ) → i < length xs
-    → ((sum + get_or xs i 0) % 65536 + total (drop (i + 1) xs)) % 65536 ≡ (sum + total (drop i xs)) % 65536
-sum_turn xs i sum h = rw (add-one, drop-cons xs i 0) (omega arith)
-
-pub sum_done : (xs : List ℕ) (i sum : ℕ) → length xs ≤ i → sum < 65536 → sum ≡ (sum + total (drop i xs)) % 65536
-sum_done xs i sum h s = rw (drop_of_length-le xs h) (omega arith)
 
 -- four hexadecimal digits see a sum only up to FFFFh
 hex_mod_4096 : (s : ℕ) → hexadecimal (s % 65536 / 4096) ≡ hexadecimal (s / 4096)
@@ -143,7 +135,7 @@ finishing l status n seq code room six b1 b2 e e1 e2 ee =
 
 pub carriable_short : (seq code : ℕ) (content : List ℕ) → carriable seq code content ≡ true → length content ≤ 200
 carriable_short seq code content e =
-    leb-true (length content) 200 (both (may_stand Name seq && may_stand Name code) (leb (length content) 200) (both _ (every (may_stand Data) content) e).0).1
+    leb-true (length content) 200 (and_parts (may_stand Name seq && may_stand Name code) (leb (length content) 200) (and_parts _ (every (may_stand Data) content) e).0).1
 
 -- a command has no status, so it can be sent when its data can
 pub sendable_command : (seq code : ℕ) (content : List ℕ)
@@ -153,13 +145,6 @@ sendable_command seq code content = rw (&&-true (carriable seq code content && t
 pub sendable_answer : (seq code : ℕ) (content status : List ℕ) → length status ≡ 6 → carriable seq code content ≡ true → every (may_stand Status) status ≡ true
     → sendable ToTill (answer_of seq code content status) ≡ true
 sendable_answer seq code content status six e s = rw (e, six, s)
-
--- why a message can't be sent
-pub not_carried : (k : Way) (m : Message) → carriable m.seq m.code m.content ≡ false → sendable k m ≡ false
-not_carried k m e = rw e
-
-pub no_status : (k : Way) (m : Message) → every (may_stand Status) m.status ≡ false → sendable k m ≡ false
-no_status k m e = rw (e, &&-false)
 
 pub too_long_lem : (seq code : ℕ) (content : List ℕ) → 200 < length content → carriable seq code content ≡ false
 too_long_lem seq code content h = rw (lt-leb (length content) 200 h, &&-false)
@@ -177,12 +162,6 @@ module _ (k : Way) (l : List ℕ) (m : Message) where
 
 -- sealing an answer, a branch of the code each
 module _ (l : List ℕ) (seq code n : ℕ) (status : List ℕ) where
-  pub seal_short : length l < 217 → sealing l seq code n status ≡ record { number = 7; count = 0; buffer = l }
-  seal_short h = rw (lt-ltb (length l) 217 h)
-
-  pub seal_long : 217 ≤ length l → 200 < n → sealing l seq code n status ≡ record { number = 8; count = 0; buffer = l }
-  seal_long h k = rw (le-ltb (length l) 217 h, lt-leb n 200 k)
-
   pub seal_done : 217 ≤ length l → n ≤ 200
       → sealing l seq code n status
       ≡ record { number = 0; count = length (frame ToTill (answer_of seq code (take n (drop 4 l)) status)); buffer = sets l 0 (frame ToTill (answer_of seq code (take n (drop 4 l)) status)) }

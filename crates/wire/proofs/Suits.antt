@@ -1,22 +1,21 @@
 -- Laws of the tests, as the code asks them.
+use Rattle.std.proofs.lemmas.Bool.{and_parts}
 use mathlib.Core.Path.{◌≡◌, refl, sym, ap, ◌∙◌}
-use mathlib.Core.Bool.{Bool, true, false, ◌&&◌, false≢true}
+use mathlib.Core.Bool.{Bool, true, false, ◌&&◌}
 use mathlib.Core.List.{List, [], ◌∷◌, ◌++◌, append_assoc}
 use Prim.Native.Nat.{ℕ, zero, suc, ◌+◌, ◌-◌, ◌≤◌, ◌<◌}
 use native.Mathlib.Numerals.{add-one}
-use native.Mathlib.Decide.{dec_lt}
 use native.Mathlib.Omega.{arith}
 use lib.Dec.{leb, eqb}
 use lib.ListN.{length, get_or, drop, replicate, length-append, length-replicate, get_or-replicate, get_or-append, get_or-eq_default, drop_of_length-le}
-use lib.Seq.{get_or-append-add, get_or-append_seam, drop-cons}
+use lib.Seq.{get_or-append-add, drop-cons}
 use borrow.Author.Tests.{le-leb, ne_eqb}
-pub use Rattle.basics.proofs.Tests.{both}
 use Rattle.wire.specs.Bytes.{within, may_stand, may_stand_in_data, every}
 use Rattle.wire.specs.Frame.{bcc}
 use Rattle.wire.specs.Places.{behind_data, front, ending, is, none}
 use Rattle.wire.specs.declared.Way.{Way}
 use Rattle.wire.specs.declared.Way.TheVariants.{ToDevice, ToTill}
-use Rattle.wire.specs.declared.Role.TheVariants.{Name, Data, Status}
+use Rattle.wire.specs.declared.Role.TheVariants.{Data}
 
 pub &&-true : (a : Bool) → a && true ≡ a
 &&-true true = refl
@@ -32,13 +31,6 @@ within_byte lowest b h = rw (le-leb b 0xFF (omega arith)) (sym (&&-true (leb low
 
 pub data_byte : (b : ℕ) → b < 256 → (b ≡ 0x09 → ⊥) → (b ≡ 0x0A → ⊥) → (b ≡ 0x10 → ⊥) → leb 0x20 b ≡ may_stand_in_data b
 data_byte b h p q r = rw (ne_eqb b 0x09 p, ne_eqb b 0x0A q, ne_eqb b 0x10 r) (within_byte 0x20 b h)
-
-pub data_feed : (b : ℕ) → 0x09 ≤ b → b < 0x0B → true ≡ may_stand_in_data b
-data_feed b h g = go (dec_lt b 0x0A)
-  where
-    go : Dec (b < 0x0A) → true ≡ may_stand_in_data b
-    go (yes less) = let e : b ≡ 0x09 = omega arith in rw e
-    go (no more) = let e : b ≡ 0x0A = omega arith in rw e
 
 -- every byte of a part, from the front on
 module _ (test : ℕ → Bool) (xs : List ℕ) (i : ℕ) where
@@ -59,35 +51,12 @@ behind_small ToTill = omega arith
 pub out : (tests : List (ℕ → Bool)) (at b : ℕ) → length tests ≤ at → get_or tests at none b ≡ false
 out tests at b h = ap (λ t. t b) (get_or-eq_default tests none h)
 
--- the places behind the data
-pub behind_out : (k : Way) (at b : ℕ) → length (behind_data k) < at → false ≡ get_or (behind_data k ++ is 0x05 ∷ []) at none b
-behind_out k at b h = sym (out (behind_data k ++ is 0x05 ∷ []) at b (simp length-append (omega arith)))
-
-pub behind_end : (k : Way) (at b : ℕ) → at ≡ length (behind_data k) → eqb b 0x05 ≡ get_or (behind_data k ++ is 0x05 ∷ []) at none b
-behind_end k at b e = rw (e, get_or-append_seam (behind_data k) (is 0x05) [] none)
-
-pub behind_first : (k : Way) (at b : ℕ) → at < length (behind_data k) → at ≡ 0 → eqb b 0x04 ≡ get_or (behind_data k ++ is 0x05 ∷ []) at none b
-behind_first ToDevice at b h e = absurd (omega arith)
-behind_first ToTill at b h e = rw e
-
-pub behind_status : (k : Way) (at b : ℕ) → at < length (behind_data k) → (at ≡ 0 → ⊥) → may_stand Status b ≡ get_or (behind_data k ++ is 0x05 ∷ []) at none b
-behind_status ToDevice at b h e = absurd (omega arith)
-behind_status ToTill zero b h e = absurd (e refl)
-behind_status ToTill (suc at) b h e =
-    let six : at < 6 = omega arith in
-    sym (ap (λ t. t b) (get_or-append (replicate 6 (may_stand Status)) (is 0x05 ∷ []) none at six ∙ get_or-replicate 6 at (may_stand Status) none six))
-
 -- the places from SEQ to 05h
 pub length_front : (k : Way) (n : ℕ) → length (front k n) ≡ 3 + n + length (behind_data k)
 length_front k n =
     let a : length (replicate n (may_stand Data) ++ behind_data k ++ is 0x05 ∷ []) ≡ n + length (behind_data k) + 1 =
     simp (length-append, length-replicate) in
     omega arith
-
-pub front_mark : (k : Way) (n at b : ℕ) → at < 2 → may_stand Name b ≡ get_or (front k n) at none b
-front_mark k n zero b h = refl
-front_mark k n (suc zero) b h = refl
-front_mark k n (suc (suc at)) b h = absurd (omega arith)
 
 pub front_data : (k : Way) (n at b : ℕ) → 2 ≤ at → at - 2 < n → may_stand Data b ≡ get_or (front k n) at none b
 front_data k n zero b g h = absurd (omega arith)
@@ -117,16 +86,3 @@ ending_quad sum (suc zero) b h = refl
 ending_quad sum (suc (suc zero)) b h = refl
 ending_quad sum (suc (suc (suc zero))) b h = refl
 ending_quad sum (suc (suc (suc (suc at)))) b h = absurd (omega arith)
-
-pub ending_last : (sum at b : ℕ) → at ≡ 4 → eqb b 0x03 ≡ get_or (ending sum) at none b
-ending_last sum at b e = rw e
-
-pub ending_out : (sum at b : ℕ) → 4 ≤ at → (at ≡ 4 → ⊥) → false ≡ get_or (ending sum) at none b
-ending_out sum at b h e = sym (out (ending sum) at b (omega arith))
-
-pub ending_in : (sum at b : ℕ) → get_or (ending sum) at none b ≡ true → at < 5
-ending_in sum at b e = go (dec_lt at 5)
-  where
-    go : Dec (at < 5) → at < 5
-    go (yes h) = h
-    go (no h) = absurd (false≢true (sym (out (ending sum) at b (omega arith)) ∙ e))

@@ -5,50 +5,59 @@ ghost use Rattle.wire.specs.Frame.{command_of, answer_of, carriable, enclosed, t
 ghost use Rattle.wire.specs.Replies.{reply_of, building, sealing};
 ghost use Rattle.wire.specs.declared.Way.TheVariants.{ToDevice, ToTill};
 
-use crate::{ANSWER_ROOM, Built, COMMAND_ROOM, MOST_DATA, Role, suit};
+use crate::{ANSWER_ROOM, COMMAND_ROOM, MOST_DATA, Role, Unbuilt, suit};
 
-// A command frame at the front of the buffer.
-pub fn build_command(buf: &mut [u8], seq: u8, code: u8, content: &[u8]) -> Built
+// A command frame at the front of the buffer: its length.
+pub fn build_command(buf: &mut [u8], seq: u8, code: u8, content: &[u8]) -> Result<usize, Unbuilt>
     ensures { reply_of result buf.new ≡ building ToDevice buf.old (command_of seq code content.now) }
 {
     if buf.len() < COMMAND_ROOM {
-        return Built::Short;
+        return Err(Unbuilt::Short);
     }
     if !can_carry(seq, code, content) {
-        return Built::Unsendable;
+        return Err(Unbuilt::Unsendable);
     }
     text::put_bytes(buf, 4, content);
-    Built::Frame(enclose(buf, seq, code, content.len()))
+    Ok(enclose(buf, seq, code, content.len()))
 }
 
-// An answer frame at the front of the buffer.
-pub fn build_answer(buf: &mut [u8], seq: u8, code: u8, content: &[u8], status: [u8; 6]) -> Built
+// An answer frame at the front of the buffer: its length.
+pub fn build_answer(
+    buf: &mut [u8],
+    seq: u8,
+    code: u8,
+    content: &[u8],
+    status: [u8; 6],
+) -> Result<usize, Unbuilt>
     ensures { reply_of result buf.new ≡ building ToTill buf.old (answer_of seq code content.now status) }
 {
     if buf.len() < ANSWER_ROOM {
-        return Built::Short;
+        return Err(Unbuilt::Short);
     }
-    if !can_carry(seq, code, content) {
-        return Built::Unsendable;
-    }
-    if !suit::all_may_stand(Role::Status, &status) {
-        return Built::Unsendable;
+    if !can_carry(seq, code, content) || !suit::all_may_stand(Role::Status, &status) {
+        return Err(Unbuilt::Unsendable);
     }
     text::put_bytes(buf, 4, content);
-    Built::Frame(finish(buf, seq, code, content.len(), status))
+    Ok(finish(buf, seq, code, content.len(), status))
 }
 
 // An answer frame around its n data bytes, which stand in their place already: from the buffer's fifth byte on.
-pub fn seal_answer(buf: &mut [u8], seq: u8, code: u8, n: usize, status: [u8; 6]) -> Built
+pub fn seal_answer(
+    buf: &mut [u8],
+    seq: u8,
+    code: u8,
+    n: usize,
+    status: [u8; 6],
+) -> Result<usize, Unbuilt>
     ensures { reply_of result buf.new ≡ sealing buf.old seq code n status }
 {
     if buf.len() < ANSWER_ROOM {
-        return Built::Short;
+        return Err(Unbuilt::Short);
     }
     if MOST_DATA < n {
-        return Built::Unsendable;
+        return Err(Unbuilt::Unsendable);
     }
-    Built::Frame(finish(buf, seq, code, n, status))
+    Ok(finish(buf, seq, code, n, status))
 }
 
 // 04h and the status behind the n data bytes, and the frame around all.
@@ -67,16 +76,10 @@ fn finish(buf: &mut [u8], seq: u8, code: u8, n: usize, status: [u8; 6]) -> usize
 fn can_carry(seq: u8, code: u8, content: &[u8]) -> bool
     ensures { result ≡ carriable seq code content.now }
 {
-    if !suit::may_stand(Role::Name, seq) {
-        return false;
-    }
-    if !suit::may_stand(Role::Name, code) {
-        return false;
-    }
-    if MOST_DATA < content.len() {
-        return false;
-    }
-    suit::all_may_stand(Role::Data, content)
+    suit::may_stand(Role::Name, seq)
+        && suit::may_stand(Role::Name, code)
+        && content.len() <= MOST_DATA
+        && suit::all_may_stand(Role::Data, content)
 }
 
 // The n bytes from the buffer's fifth on stand between CMD and 05h already; the rest is put around them.
@@ -101,10 +104,8 @@ pub fn sum_of(part: &[u8]) -> u16
     ensures { result ≡ total part.now % 65536 }
 {
     let mut sum: u16 = 0;
-    let mut i = 0;
-    while i < part.len() {
-        sum = ((sum as u32 + part[i] as u32) % 65536) as u16;
-        i += 1;
+    for b in part {
+        sum = sum.wrapping_add(u16::from(*b));
     }
     sum
 }

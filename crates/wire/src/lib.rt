@@ -30,10 +30,9 @@ pub enum Role {
     Status,
 }
 
-// What building a frame answers: the frame's length, number 7 or number 8.
-#[derive(Clone, Copy)]
-pub enum Built {
-    Frame(usize),
+// Why no frame was built: number 7, too short a buffer, or number 8.
+#[derive(Clone, Copy, PartialEq, Eq)]
+pub enum Unbuilt {
     Short,
     Unsendable,
 }

@@ -10,13 +10,7 @@ use crate::{LEAST_LEN, Role, Way};
 fn may_stand_in_data(b: u8) -> bool
     ensures { result ≡ may_stand_in_data b }
 {
-    if 0x20 <= b {
-        return true;
-    }
-    match b {
-        0x09 | 0x0A | 0x10 => true,
-        _ => false,
-    }
+    0x20 <= b || matches!(b, 0x09 | 0x0A | 0x10)
 }
 
 // Whether a byte may stand where one of its sort stands.
@@ -34,14 +28,7 @@ pub fn may_stand(role: Role, b: u8) -> bool
 pub fn all_may_stand(role: Role, part: &[u8]) -> bool
     ensures { result ≡ every (may_stand role) part.now }
 {
-    let mut i = 0;
-    while i < part.len() {
-        if !may_stand(role, part[i]) {
-            return false;
-        }
-        i += 1;
-    }
-    true
+    part.iter().all(|b| may_stand(role, *b))
 }
 
 // The four bytes of a BCC, the highest digit first.
@@ -70,12 +57,7 @@ pub fn behind_data(way: Way) -> usize
 pub fn data_count(way: Way, len: u8) -> usize
     ensures { result ≡ data_count way len }
 {
-    let least = LEAST_LEN + behind_data(way);
-    let l = len as usize;
-    if l < least {
-        return 0;
-    }
-    l - least
+    usize::from(len).saturating_sub(LEAST_LEN + behind_data(way))
 }
 
 // The places behind the data up to 05h, from 0.

@@ -6,7 +6,7 @@ use Prim.Native.Nat.{ℕ}
 use native.Mathlib.Omega.{arith}
 use lib.ListN.{take, drop}
 use Rattle.command.specs.Commands.{parsed_of}
-use Rattle.kinds.specs.declared.Parsed.{Parsed}
+use Rattle.kinds.specs.Fields.{Parsed}
 use Rattle.sheet.specs.Searches.{match_of}
 use Rattle.line.specs.Listening.{listened_to, frame_behind}
 use Rattle.line.specs.declared.Call.{Call}

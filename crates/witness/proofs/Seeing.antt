@@ -1,12 +1,12 @@
 -- Laws of a call that is witnessed, a branch of the code each.
+use Rattle.std.specs.Prelude.{Option}
 use mathlib.Core.Path.{◌≡◌, sym, ap, ◌∙◌}
 use mathlib.Core.List.{List}
 use Prim.Native.Nat.{ℕ, ◌+◌, ◌-◌, min}
 use lib.ListN.{length, take, drop}
 use Rattle.command.specs.Commands.{parsed_of}
-use Rattle.kinds.specs.declared.Parsed.{Parsed}
+use Rattle.kinds.specs.Fields.{Parsed}
 use Rattle.sheet.specs.Searches.{match_of}
-use Rattle.sheet.specs.declared.Match.{Match}
 use Rattle.sheet.specs.declared.Search.{Search}
 use Rattle.line.specs.declared.Call.{Call}
 use Rattle.line.specs.declared.Call.TheVariants.{Order}
@@ -21,7 +21,7 @@ use Rattle.witness.specs.Witness.{reason_by, reason_among, witnessed}
 
 -- an order's data, read, what the sheet says to it, and the reason
 module _ (s : Store) (call : Call) (frame : List ℕ) (seq code n k : ℕ) where
-  pub reason_is : (p : Parsed) (q : Search) (m : Match) (r : Reason) → call ≡ Order seq code n → length frame ≡ 256 → k ≡ min n 253
+  pub reason_is : (p : Parsed) (q : Search) (m : Option ℕ) (r : Reason) → call ≡ Order seq code n → length frame ≡ 256 → k ≡ min n 253
       → p ≡ parsed_of code (take (k + 3 - 3) (drop 3 frame)) → q ≡ search_in s.books p → m ≡ match_of s.sheet q → r ≡ reason_of s.guard s.books m p
       → r ≡ reason_among s (carried_by call frame)
   reason_is p q m r ec size ek ep eq em er =

@@ -8,7 +8,7 @@ use Rattle.carrying.specs.Carrying.{search_in}
 use Rattle.reasons.specs.declared.Reason.{Reason}
 use Rattle.reasons.specs.declared.Reason.TheVariants.{Done}
 use Rattle.refusals.specs.Refusals.{reason_of}
-use Rattle.kinds.specs.declared.Parsed.{Parsed}
+use Rattle.kinds.specs.Fields.{Parsed}
 use Rattle.machine.specs.Device.{Lent, Machine, store_of}
 use Rattle.machine.specs.Hearing.{PartHeard, after_part, carried_by}
 use Rattle.kept.specs.ByValue.{next_of}
@@ -36,7 +36,4 @@ witnessed m lent bytes =
 -- the same as the code has it
 abbrev pub seen_of : Seen → (frame last buffer display : List ℕ) → Witnessed
 seen_of s frame last buffer display =
-    record {
-      heard = next_of (record { kept = s.kept; call = s.call; number = s.number; count = s.count; shows = s.shows; taken = s.taken }) frame last buffer display;
-      reason = s.reason;
-    }
+    record { heard = next_of s.next frame last buffer display; reason = s.reason }

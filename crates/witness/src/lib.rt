@@ -7,9 +7,8 @@ ghost use Rattle.machine.specs.Hearing.{carried_by};
 ghost use Rattle.witness.specs.Witness.{reason_among, seen_of, witnessed};
 
 use books::Books;
-use display::Display;
 use guard::Guard;
-use kept::Kept;
+use kept::{Kept, Next};
 use line::{Call, MOST_HELD};
 use reader::FRAME_ROOM;
 use reasons::Reason;
@@ -19,12 +18,7 @@ use wire::ANSWER_ROOM;
 // A call as `kept::hear_next` hands it back, and the first reason against its command: Done where none was refused.
 #[derive(Clone, Copy)]
 pub struct Seen {
-    pub kept: Kept,
-    pub call: Call,
-    pub number: u64,
-    pub count: usize,
-    pub shows: Display,
-    pub taken: usize,
+    pub next: Next,
     pub reason: Reason,
 }
 
@@ -39,24 +33,13 @@ pub fn see(
     from: usize,
 ) -> Seen
     ensures display_after { seen_of result frame.new last.new buf.new display.new ≡ witnessed (machine_of kept frame.old last.old) (record { buffer = buf.old; lines = 512; display = display.old }) (drop from bytes.now) }
-    ensures count_bound { result.count ≤ 217 }
+    ensures count_bound { result.next.count ≤ 217 }
 {
     let next = kept::hear_next(kept, frame, last, buf, display, bytes, from);
-    let call = next.call;
-    let after = next.kept;
-    let shows = next.shows;
     let device = kept.device;
-    let books = device.books;
-    let guard = device.guard;
-    let sheet = kept.sheet;
     Seen {
-        kept: after,
-        call,
-        number: next.number,
-        count: next.count,
-        shows,
-        taken: next.taken,
-        reason: why(guard, books, sheet, call, &*frame),
+        next,
+        reason: why(device.guard, device.books, kept.sheet, next.call, &*frame),
     }
 }
 
@@ -69,12 +52,8 @@ fn why(guard: Guard, books: Books, sheet: [Line; MOST_LINES], call: Call, frame:
         Call::Quiet => Reason::Done,
         Call::Nak => Reason::Done,
         Call::Again => Reason::Done,
-        Call::Order {
-            seq: _,
-            code,
-            count,
-        } => {
-            let end = basics::least_size(count, MOST_HELD) + 3;
+        Call::Order { code, count, .. } => {
+            let end = count.min(MOST_HELD) + 3;
             let parsed = command::parse(code, &frame[3..end]);
             let said = matching::match_kept(sheet, carrying::search_in(books, parsed));
             refusals::reason_of(guard, books, said, parsed)

@@ -1,14 +1,14 @@
 -- Every word has room in a text by value, and is read back from it.
+use Rattle.std.proofs.lemmas.Bool.{and_parts}
 use Prim.Native.Nat.{ℕ, zero, suc, ◌+◌, ◌*◌, ◌≤◌, min}
-use mathlib.Core.Path.{◌≡◌, refl, sym, ap, ◌∙◌}
+use mathlib.Core.Path.{◌≡◌, refl, ap}
 use mathlib.Core.Bool.{Bool, true, false, cond, ◌&&◌}
-use mathlib.Core.List.{List, [], ◌∷◌, ◌++◌}
+use mathlib.Core.List.{List, [], ◌∷◌}
 use native.Mathlib.Omega.{arith}
 use lib.Dec.{leb, ltb, eqb}
 use lib.ListN.{length, take, drop, get_or, replicate, length-replicate}
 use lib.Seq.{sets, sets-eq, take-append_seam}
 use borrow.Author.Tests.{leb-true}
-use Rattle.basics.proofs.Tests.{both}
 use Rattle.text.specs.Parts.{first_at}
 use Rattle.letters.specs.Letters.{bytes}
 use Rattle.reasons.specs.declared.Reason.{Reason}
@@ -25,8 +25,8 @@ short (r ∷ rs) = leb (length r) 64 && short rs
 
 row_short : (rows : List (List ℕ)) → short rows ≡ true → (k : ℕ) → length (get_or rows k []) ≤ 64
 row_short [] e k = omega arith
-row_short (r ∷ rs) e zero = leb-true (length r) 64 (both (leb (length r) 64) (short rs) e).0
-row_short (r ∷ rs) e (suc k) = row_short rs (both (leb (length r) 64) (short rs) e).1 k
+row_short (r ∷ rs) e zero = leb-true (length r) 64 (and_parts (leb (length r) 64) (short rs) e).0
+row_short (r ∷ rs) e (suc k) = row_short rs (and_parts (leb (length r) 64) (short rs) e).1 k
 
 pub command_short : (code : ℕ) → length (command_word code) ≤ 64
 command_short code = row_short command_words refl (first_at code codes)

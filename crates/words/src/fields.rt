@@ -10,15 +10,11 @@ pub fn field_word(code: u8, i: usize) -> Words
     ensures { result ≡ words_of (field_word code i) }
 {
     match code {
-        38 => counter_word(i),
-        39 => counter_word(i),
-        48 => counter_word(i),
+        38 | 39 | 48 | 56 => counter_word(i),
         51 => subtotal_word(i),
-        56 => counter_word(i),
-        65 => group_word(i),
+        65 | 97 => group_word(i),
         69 => closure_word(i),
         70 => drawer_word(i),
-        97 => group_word(i),
         _ => words_of(b""),
     }
 }

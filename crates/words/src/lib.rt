@@ -110,53 +110,14 @@ pub fn reason_word(reason: Reason) -> Words
 fn reason_place(reason: Reason) -> usize
     ensures { result ≡ reason_place reason }
 {
-    match reason {
-        Reason::Done => 0,
-        Reason::Syntax => 1,
-        Reason::OutOfRange => 2,
-        Reason::Unknown => 3,
-        Reason::WrongPassword => 4,
-        Reason::Locked => 5,
-        Reason::ReceiptOpen => 6,
-        Reason::ManyReceipts => 7,
-        Reason::MemoryFull => 8,
-        Reason::NoFiscal => 9,
-        Reason::PaymentDone => 10,
-        Reason::ManyLines => 11,
-        Reason::GroupDisabled => 12,
-        Reason::OffAboveLine => 13,
-        Reason::NoLineBack => 14,
-        Reason::OffAboveGroup => 15,
-        Reason::NoTotal => 16,
-        Reason::OffAboveTotal => 17,
-        Reason::PaidInFull => 18,
-        Reason::AboveRest => 19,
-        Reason::NotPaid => 20,
-        Reason::NoText => 21,
-        Reason::LittleCash => 22,
-        Reason::ManyFiscal => 23,
-        Reason::LineOver => 24,
-        Reason::FinishedOver => 25,
-        Reason::NotTheSum => 26,
-        Reason::TotalOver => 27,
-        Reason::GroupOver => 28,
-        Reason::RegisterOver => 29,
-        Reason::DayOver => 30,
-        Reason::MemoryOver => 31,
-        Reason::CashOver => 32,
-        Reason::InOver => 33,
-        Reason::OutOver => 34,
-    }
+    reason as usize
 }
 
 // PROTOCOL 3.1: what a status bit says that is set, both counted from 0; nothing where it is always 0. A byte to a line.
 pub fn status_word(byte: usize, bit: usize) -> Words
     ensures { result ≡ words_of (status_word byte bit) }
 {
-    if 8 <= bit {
-        return words_of(b"");
-    }
-    if 6 <= byte {
+    if (8 <= bit) | (6 <= byte) {
         return words_of(b"");
     }
     row(

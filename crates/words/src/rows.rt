@@ -1,6 +1,6 @@
 // A text by value, and the rows of a table.
-ghost use Rattle.std.specs.Prelude.{◌≡◌, ◌≤◌, ◌<◌, length, drop};
-ghost use Rattle.text.specs.Parts.{up_to, past};
+ghost use Rattle.std.specs.Prelude.{◌≡◌};
+ghost use Rattle.text.specs.Parts.{past};
 ghost use Rattle.words.specs.Words.{words_of};
 ghost use Rattle.words.specs.Rows.{row_at};
 
@@ -22,7 +22,7 @@ pub fn words_of(src: &[u8]) -> Words
     text::put_bytes(&mut bytes, 0, src);
     Words {
         bytes,
-        count: basics::least_size(src.len(), WORDS_ROOM),
+        count: src.len().min(WORDS_ROOM),
     }
 }
 
@@ -37,36 +37,24 @@ pub fn row(table: &[u8], k: usize) -> Words
 pub fn row_of(table: &[u8], k: usize) -> &[u8]
     ensures { result.now ≡ row_at k table.now }
 {
-    let at = row_place(table, k);
-    let part = &table[at..];
-    let end = text::find(part, 10);
-    &part[..end]
-}
-
-// Where the k-th row begins; the end of the table where there is none.
-fn row_place(table: &[u8], k: usize) -> usize
-    ensures { (result ≤ length table.now) × (up_to 10 (drop result table.now) ≡ row_at k table.now) }
-{
-    let mut at = 0;
-    let mut left = k;
-    while at < table.len() {
-        if left == 0 {
-            return at;
+    let mut rest = table;
+    for _ in 0..k {
+        if rest.is_empty() {
+            break;
         }
-        at = behind_row(table, at);
-        left -= 1;
+        rest = behind_row(rest);
     }
-    at
+    &rest[..text::find(rest, 10)]
 }
 
-// The place behind that row.
-fn behind_row(table: &[u8], at: usize) -> usize
-    requires { at < length table.now }
-    ensures { (at < result) × (result ≤ length table.now) × (drop result table.now ≡ past 10 (drop at table.now)) }
+// What stands behind the first row.
+fn behind_row(table: &[u8]) -> &[u8]
+    ensures { result.now ≡ past 10 table.now }
 {
-    let end = at + text::find(&table[at..], 10);
-    if end < table.len() {
-        return end + 1;
+    let end = text::find(table, 10);
+    let part = &table[end..];
+    match part {
+        [_, rest @ ..] => rest,
+        [] => b"",
     }
-    table.len()
 }

@@ -1,5 +1,5 @@
 -- SCRIPTS 4: the data of a command, as it is written in a line.
-use Rattle.std.specs.Prelude.{ℕ, ◌+◌, ◌*◌, ◌%◌, Bool, true, false, cond, List, [], ◌∷◌, ◌++◌, eqb, ltb}
+use Rattle.std.specs.Prelude.{ℕ, ◌+◌, ◌*◌, ◌%◌, Bool, true, false, cond, List, [], ◌∷◌, ◌++◌, eqb, Option, Some, None}
 use Rattle.writing.specs.Words.{digit_of}
 use Rattle.writing.specs.declared.Stand.{Stand}
 use Rattle.writing.specs.declared.Stand.TheVariants.{Plain, Escape, High, Low, Spoilt}
@@ -18,11 +18,13 @@ escape_step b =
     (cond (eqb b 0x5C) (Says 0x5C)
     (cond (eqb b 0x78) (GoesTo High) (GoesTo Spoilt))))
 
-abbrev pub high_step : (digit : ℕ) → Step
-high_step digit = cond (ltb digit 16) (GoesTo (Low digit)) (GoesTo Spoilt)
+abbrev pub high_step : (digit : Option ℕ) → Step
+high_step (Some high) = GoesTo (Low high)
+high_step None = GoesTo Spoilt
 
-abbrev pub low_step : (high digit : ℕ) → Step
-low_step high digit = cond (ltb digit 16) (Says (high % 16 * 16 + digit)) (GoesTo Spoilt)
+abbrev pub low_step : (high : ℕ) → (digit : Option ℕ) → Step
+low_step high (Some low) = Says (high % 16 * 16 + low)
+low_step high None = GoesTo Spoilt
 
 -- SCRIPTS 4: what a byte says, by where reading stands: a byte of the data, or none yet
 abbrev pub step_of : Stand → ℕ → Step

@@ -1,14 +1,12 @@
 -- SCRIPTS 2: the words of a line; 4: hexadecimal digits.
-use Rattle.std.specs.Prelude.{ℕ, ◌-◌, Bool, true, false, cond, ◌&&◌, List, [], ◌∷◌, eqb}
+use Rattle.std.specs.Prelude.{ℕ, ◌-◌, Bool, cond, List, Option, Some, None}
+use Rattle.std.specs.Str.{bytes_eq}
 use Prim.Native.String as string
 use Rattle.text.specs.Parts.{up_to, past, within}
 use Rattle.letters.specs.Letters.{bytes}
 
 abbrev pub same : List ℕ → List ℕ → Bool
-same [] [] = true
-same [] (y ∷ ys) = false
-same (x ∷ xs) [] = false
-same (x ∷ xs) (y ∷ ys) = eqb x y && same xs ys
+same = bytes_eq
 
 -- SCRIPTS 2: whether it is this word
 abbrev pub is : string.String → List ℕ → Bool
@@ -21,9 +19,9 @@ word s = up_to 0x20 s
 abbrev pub behind : List ℕ → List ℕ
 behind s = past 0x20 s
 
--- SCRIPTS 4: the value of a hexadecimal digit in either case, 0 to 15; 16 where it is none
-abbrev pub digit_of : ℕ → ℕ
+-- SCRIPTS 4: the value of a hexadecimal digit in either case, 0 to 15; none of any other byte
+abbrev pub digit_of : ℕ → Option ℕ
 digit_of b =
-    cond (within 0x30 0x39 b) (b - 0x30)
-    (cond (within 0x41 0x46 b) (b - 0x37)
-    (cond (within 0x61 0x66 b) (b - 0x57) 16))
+    cond (within 0x30 0x39 b) (Some (b - 0x30))
+    (cond (within 0x41 0x46 b) (Some (b - 0x37))
+    (cond (within 0x61 0x66 b) (Some (b - 0x57)) None))

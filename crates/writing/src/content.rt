@@ -1,5 +1,5 @@
 // The data of a command as it is written in a line, with escapes (SCRIPTS 4).
-ghost use Rattle.std.specs.Prelude.{◌≡◌, ◌+◌, ◌<◌, length};
+ghost use Rattle.std.specs.Prelude.{◌≡◌, ◌+◌, ◌<◌, IfSome, length};
 ghost use Rattle.std.proofs.lemmas.List.Edits.{sets};
 ghost use Rattle.writing.specs.Content.{plain_step, escape_step, high_step, low_step, step_of, said_by, stand_after, said_in, end_of, is_plain};
 ghost use Rattle.writing.specs.declared.Stand.TheVariants.{Plain};
@@ -20,15 +20,13 @@ pub fn unescape(s: &[u8], buf: &mut [u8]) -> Content
     ensures buf_after { buf.new ≡ sets buf.old 0 (said_in Plain s.now) }
 {
     let mut stand = Stand::Plain;
-    let mut n = 0;
-    let mut i = 0;
-    while i < s.len() {
-        let step = step_of(stand, s[i]);
-        n = put_said(step, buf, n);
+    let mut count = 0;
+    for &b in s {
+        let step = step_of(stand, b);
+        count = put_said(step, buf, count);
         stand = stand_after(step);
-        i += 1;
     }
-    Content { stand, count: n }
+    Content { stand, count }
 }
 
 // The byte that a step says, behind those before it.
@@ -88,33 +86,28 @@ fn escape_step(b: u8) -> Step
     }
 }
 
-fn high_step(digit: u8) -> Step
+fn high_step(digit: Option<u8>) -> Step
     ensures { result ≡ high_step digit }
 {
-    if digit < 16 {
-        return Step::GoesTo(Stand::Low(digit));
+    match digit {
+        Some(high) => Step::GoesTo(Stand::Low(high)),
+        None => Step::GoesTo(Stand::Spoilt),
     }
-    Step::GoesTo(Stand::Spoilt)
 }
 
-fn low_step(high: u8, digit: u8) -> Step
+fn low_step(high: u8, digit: Option<u8>) -> Step
+    requires { IfSome digit (λ low. low < 16) }
     ensures { result ≡ low_step high digit }
 {
-    if digit < 16 {
-        return Step::Says(high % 16 * 16 + digit);
+    match digit {
+        Some(low) => Step::Says(high % 16 * 16 + low),
+        None => Step::GoesTo(Stand::Spoilt),
     }
-    Step::GoesTo(Stand::Spoilt)
 }
 
 // Whether reading stands where data may end.
 pub fn is_plain(stand: Stand) -> bool
     ensures { result ≡ is_plain stand }
 {
-    match stand {
-        Stand::Plain => true,
-        Stand::Escape => false,
-        Stand::High => false,
-        Stand::Low(_) => false,
-        Stand::Spoilt => false,
-    }
+    matches!(stand, Stand::Plain)
 }

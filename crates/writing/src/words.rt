@@ -1,22 +1,12 @@
 // The words of a line, and hexadecimal digits (SCRIPTS 2, 4).
-ghost use Rattle.std.specs.Prelude.{◌≡◌};
+ghost use Rattle.std.specs.Prelude.{◌≡◌, ◌<◌, IfSome};
 ghost use Rattle.writing.specs.Words.{same, word, behind, digit_of};
 
 // Whether a word is this one.
 pub fn is(s: &[u8], this: &[u8]) -> bool
     ensures { result ≡ same s.now this.now }
 {
-    if s.len() != this.len() {
-        return false;
-    }
-    let mut i = 0;
-    while i < s.len() {
-        if s[i] != this[i] {
-            return false;
-        }
-        i += 1;
-    }
-    true
+    s == this
 }
 
 // The first word.
@@ -39,18 +29,15 @@ pub fn behind(s: &[u8]) -> &[u8]
     &s[next..]
 }
 
-// The value of a hexadecimal digit; 16 where it is none.
-pub fn digit(b: u8) -> u8
-    ensures { result ≡ digit_of b }
+// The value of a hexadecimal digit, where it is one.
+pub fn digit(b: u8) -> Option<u8>
+    ensures value { result ≡ digit_of b }
+    ensures small { IfSome result (λ value. value < 16) }
 {
-    if (b'0' <= b) & (b <= b'9') {
-        return b - 0x30;
+    match b {
+        b'0'..=b'9' => Some(b - 0x30),
+        b'A'..=b'F' => Some(b - 0x37),
+        b'a'..=b'f' => Some(b - 0x57),
+        _ => None,
     }
-    if (b'A' <= b) & (b <= b'F') {
-        return b - 0x37;
-    }
-    if (b'a' <= b) & (b <= b'f') {
-        return b - 0x57;
-    }
-    16
 }

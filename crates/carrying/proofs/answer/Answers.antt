@@ -14,6 +14,6 @@ returns c =
     let status = status_of d.number d.books in
     let size = seal_size c.args.buf.now content status c.status-status.result c.args.seq c.args.code c.show-n.result _ _ c.seal_answer-built.result c.requires few (status_six d.number d.books) c.show-n.ensures.value c.show-n.ensures.buf_after c.status-status.ensures c.seal_answer-built.ensures in
     let bytes = seal_bytes c.args.buf.now content status c.status-status.result c.args.seq c.args.code c.show-n.result _ _ c.seal_answer-built.result c.requires few (status_six d.number d.books) c.show-n.ensures.value c.show-n.ensures.buf_after c.status-status.ensures c.seal_answer-built.ensures in record {
-      buf_after = work_is c.args.books c.args.seq c.args.code d c.size_of.result c.args.buf.now _ (c.size_of.ensures ∙ size.0) bytes;
+      buf_after = work_is c.args.books c.args.seq c.args.code d c.unwrap_or.result c.args.buf.now _ (c.unwrap_or.ensures ∙ size.0) bytes;
       count_bound = omega (arith, size.1);
     }

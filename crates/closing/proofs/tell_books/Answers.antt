@@ -9,5 +9,5 @@ use Rattle.closing.proofs.tell_books.Goals as goal
 pub returns : goal.returns
 returns c =
     let b = c.args.books in
-    put_then (put_as c.sentence-next.ensures (ap (filled figures []) c.figures_of-figures.ensures))
+    put_then (put_as c.sentence-next.ensures (ap (filled figures []) c.figures_of.ensures))
     (put_as c.sentence.ensures (open_as b.opened c.open_row.result _ c.open_row.ensures))

@@ -1,9 +1,6 @@
 -- The buffers keep their lengths.
-use Rattle.std.proofs.Common.{◌-◌, ◌≡◌, length}
+use Rattle.std.proofs.Common.{◌≡◌, length}
 use Rattle.device_replay.proofs.main.Given as goal
 
 abbrev pub invariant-loop-events : goal.invariant-loop-events
 invariant-loop-events l = (length l.event ≡ 5) × ((length l.buf ≡ 65536) × (length l.display ≡ 40))
-
-abbrev pub decreases-loop-events : goal.decreases-loop-events
-decreases-loop-events l = 0xFFFFFFFFFFFFFFFF - l.events

@@ -1,6 +1,6 @@
+use Rattle.std.specs.Prelude.{Some}
 use mathlib.Core.Path.{sym, ap, ◌∙◌}
 use Rattle.wire.proofs.Suits.{&&-false}
-use Rattle.display.specs.declared.Display.TheVariants.{Shows}
 use Rattle.display.specs.Display.{display_of, displayed}
 use Rattle.display.proofs.Shown.{other_shows, good_shows}
 use Rattle.display.proofs.show.Goals as goal
@@ -27,6 +27,6 @@ returns c =
     let a = c.args in
     let one = good_shows a.code a.s.now c.if-code-ne-SHOW.false (sym c.can_show.ensures ∙ c.if-not-can_show.false) in
     record {
-      value = ap Shows c.put_plain.ensures.value ∙ sym (ap display_of one);
+      value = ap Some c.put_plain.ensures.value ∙ sym (ap display_of one);
       buf_after = c.put_plain.ensures.buf_after ∙ sym (ap (displayed a.buf.now) one);
     }

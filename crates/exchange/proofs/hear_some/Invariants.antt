@@ -1,13 +1,9 @@
-use Prim.Native.Nat.{◌≤◌, ◌-◌}
 use mathlib.Core.Path.{◌≡◌}
 use lib.ListN.{length, drop}
 use Rattle.exchange.specs.Exchange.{heard_some}
 use Rattle.exchange.proofs.hear_some.Given as goal
 
 -- What is still to be heard, from where hearing stands, brings what all of it brought from the beginning.
-abbrev pub invariant-loop-i : goal.invariant-loop-i
-invariant-loop-i l =
-    (l.i ≤ length l.bytes) × (length l.buf ≡ length l.initial.buf) × (heard_some l.frame l.listening l.answer l.buf (drop l.i l.bytes) ≡ heard_some l.frame l.initial.listening l.initial.answer l.initial.buf l.bytes)
-
-abbrev pub decreases-loop-i : goal.decreases-loop-i
-decreases-loop-i l = length l.bytes - l.i
+abbrev pub invariant-loop-b : goal.invariant-loop-b
+invariant-loop-b l =
+    (length l.buf ≡ length l.initial.buf) × (heard_some l.frame l.listening l.answer l.buf (drop l.b-index l.bytes) ≡ heard_some l.frame l.initial.listening l.initial.answer l.initial.buf l.bytes)

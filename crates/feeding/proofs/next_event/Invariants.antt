@@ -2,8 +2,8 @@
 use Rattle.std.proofs.Common.{◌+◌, ◌-◌, ◌≤◌, ◌≡◌, length}
 use Rattle.feeding.proofs.next_event.Given as goal
 
-abbrev pub invariant-loop-n : goal.invariant-loop-n
-invariant-loop-n l = (length l.event ≡ length l.initial.event) × (l.n ≤ length l.initial.event)
+abbrev pub invariant-loop-whole : goal.invariant-loop-whole
+invariant-loop-whole l = (length l.event ≡ length l.initial.event) × (l.n ≤ length l.initial.event)
 
-abbrev pub decreases-loop-n : goal.decreases-loop-n
-decreases-loop-n l = length l.initial.event + 1 - l.n
+abbrev pub decreases-loop-whole : goal.decreases-loop-whole
+decreases-loop-whole l = length l.initial.event + 1 - l.n

@@ -1,9 +1,6 @@
--- The records before i are told.
-use Rattle.std.proofs.Common.{◌-◌, ◌≤◌, length}
+-- What is left gets shorter.
+use Rattle.std.proofs.Common.{length}
 use Rattle.fields.proofs.records.Given as goal
 
-abbrev pub invariant-loop-i : goal.invariant-loop-i
-invariant-loop-i l = l.i ≤ length l.s
-
-abbrev pub decreases-loop-i : goal.decreases-loop-i
-decreases-loop-i l = length l.s - l.i
+abbrev pub decreases-loop-behind : goal.decreases-loop-behind
+decreases-loop-behind l = length l.s

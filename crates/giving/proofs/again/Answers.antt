@@ -8,6 +8,6 @@ returns-in-Nothing c =
 pub returns-in-Frame : goal.returns-in-Frame
 returns-in-Frame c =
     record {
-      value = again_size c.args.previous c.args.last.now c.args.buf.now _ _ _ c.least_size-n.result c.in-Frame.is c.least_size-n.ensures;
-      buf_after = again_bytes c.args.previous c.args.last.now c.args.buf.now _ _ _ c.least_size-n.result c.in-Frame.is c.least_size-n.ensures _ c.put_bytes.ensures;
+      value = again_size c.args.previous c.args.last.now c.args.buf.now _ _ _ c.min-n.result c.in-Frame.is c.min-n.ensures;
+      buf_after = again_bytes c.args.previous c.args.last.now c.args.buf.now _ _ _ c.min-n.result c.in-Frame.is c.min-n.ensures _ c.put_bytes.ensures;
     }

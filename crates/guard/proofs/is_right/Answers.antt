@@ -10,22 +10,14 @@ pub overflow_sub-i : goal.overflow_sub-i
 overflow_sub-i c =
     op_from c.args.op (sym c.is_op.ensures ∙ c.if-not-is_op.false)
 
-pub offset_bounds-digits-i : goal.offset_bounds-digits-i
-offset_bounds-digits-i c =
+pub offset_bounds-guard-i : goal.offset_bounds-guard-i
+offset_bounds-guard-i c =
     omega (arith, op_to c.args.op (sym c.is_op.ensures ∙ c.if-not-is_op.false))
 
-pub bounds-digits-i : goal.bounds-digits-i
-bounds-digits-i c =
-    omega (arith, op_to c.args.op (sym c.is_op.ensures ∙ c.if-not-is_op.false))
-
-pub offset_bounds-values-i : goal.offset_bounds-values-i
-offset_bounds-values-i c =
-    omega (arith, op_to c.args.op (sym c.is_op.ensures ∙ c.if-not-is_op.false))
-
-pub bounds-values-i : goal.bounds-values-i
-bounds-values-i c =
+pub bounds-guard-i : goal.bounds-guard-i
+bounds-guard-i c =
     omega (arith, op_to c.args.op (sym c.is_op.ensures ∙ c.if-not-is_op.false))
 
 pub returns : goal.returns
 returns c =
-    rw (sym c.is_op.ensures ∙ c.if-not-is_op.false)
+    rw (sym c.is_op.ensures ∙ c.if-not-is_op.false) (c.eq.ensures)

@@ -1,23 +1,17 @@
-use mathlib.Core.Path.{sym, ◌∙◌}
-use native.Mathlib.Omega.{arith}
-use lib.Dec.{leb}
-use borrow.Author.Tests.{le-leb, lt-leb}
-use Rattle.wire.proofs.Suits.{every_turn, every_stop, every_done}
-use Rattle.labels.proofs.Tabs.{text_long, text_short}
+use Rattle.std.proofs.Common.{ℕ, ◌≡◌, Bool, ◌&&◌, List, [], ◌∷◌, leb, refl, sym, ap, ◌∙◌, rules, tests}
+use Rattle.std.specs.List.{list_all}
+use Rattle.std.proofs.lemmas.Iterator.{YieldsList-from_slice}
+use Rattle.std.proofs.lemmas.Iterator.Search.{all_from_yields_List}
+use Rattle.text.specs.Parts.{every}
+use Rattle.labels.proofs.Tabs.{text_short}
 use Rattle.labels.proofs.is_within.Goals as goal
 
-pub returns-then-most-s : goal.returns-then-most-s
-returns-then-most-s c = text_long c.args.most c.args.s.now c.if-most-s.true
+list_all-every : (p : ℕ → Bool) (s : List ℕ) → list_all p s ≡ every p s
+list_all-every p [] = refl
+list_all-every p (b ∷ s) = ap (λ t. p b && t) (list_all-every p s)
 
-pub loop-i-init : goal.loop-i-init
-loop-i-init c = (omega arith, text_short c.args.most c.args.s.now c.if-most-s.false)
-
-pub loop-i-preserved : goal.loop-i-preserved
-loop-i-preserved c = (
-  omega arith,
-  c.loop-i.invariant.1 ∙ every_turn (leb 0x20) c.args.s.now c.loop-i.i c.loop-i-test.true (le-leb _ _ (omega arith)),
-)
-
-pub returns : goal.returns
-returns c =
-    sym (c.loop-i.invariant.1 ∙ every_done (leb 0x20) c.args.s.now c.loop-i.i c.loop-i-test.false)
+pub returns-then-s-most : goal.returns-then-s-most
+returns-then-s-most c =
+    let s = c.args.s.now in
+    let told : c.all.result ≡ list_all (leb 0x20) s = all_from_yields_List (leb 0x20) _ _ c.all.result c.all.ensures.ran (YieldsList-from_slice s cc) (λ x b q k. search (rules, tests)) in
+    told ∙ list_all-every (leb 0x20) s ∙ sym (text_short c.args.most s c.if-s-most.true)

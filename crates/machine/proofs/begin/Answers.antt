@@ -10,7 +10,7 @@ returns-then-not-is_enough c =
 
 pub returns : goal.returns
 returns c =
-    let rest = rest_from c.args.from c.least_size-start.result c.args.bytes.now c.least_size-start.ensures in
+    let rest = rest_from c.args.from c.min-start.result c.args.bytes.now c.min-start.ensures in
     heard_first c.args.device c.args.frame.now c.args.display.now c.args.room c.args.lines (drop c.args.from c.args.bytes.now) c.listen-listened.result _ _ c.ask-asked.result
     (sym c.is_enough.ensures ∙ c.if-not-is_enough.false)
     (c.listen-listened.ensures.value ∙ ap (listened_to c.args.device.line c.args.frame.now) rest)

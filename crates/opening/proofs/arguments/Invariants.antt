@@ -1,10 +1,6 @@
 -- What the arguments before the place ask for.
-use Rattle.std.proofs.Common.{◌-◌}
 use Rattle.opening.proofs.Words.{Before}
 use Rattle.opening.proofs.arguments.Given as goal
 
 abbrev pub invariant-loop-place : goal.invariant-loop-place
 invariant-loop-place g l = Before l.asked l.place
-
-abbrev pub decreases-loop-place : goal.decreases-loop-place
-decreases-loop-place g l = 18446744073709551615 - l.place

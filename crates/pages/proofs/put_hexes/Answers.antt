@@ -1,21 +1,17 @@
 -- The loop's invariant: with the rest put here, all is put.
-use Prim.Native.Nat.{◌-◌}
 use native.Mathlib.Omega.{arith}
 use Rattle.sentences.proofs.Filling.{rest_start, rest_turn, rest_done}
 use Rattle.pages.specs.Pages.{hex_of}
 use Rattle.pages.proofs.Letters.{each_next, each_done}
 use Rattle.pages.proofs.put_hexes.Goals as goal
 
-pub loop-i-init : goal.loop-i-init
-loop-i-init c = (omega arith, rest_start _ c.least_size-place.ensures)
+pub loop-b-init : goal.loop-b-init
+loop-b-init c = rest_start _ c.min-place.ensures
 
-pub loop-i-preserved : goal.loop-i-preserved
-loop-i-preserved c =
+pub loop-b-preserved : goal.loop-b-preserved
+loop-b-preserved c =
     let bytes = c.args.bytes.now in
-    (omega arith, rest_turn c.loop-i.invariant.1 _ _ (each_next hex_of bytes c.loop-i.i c.loop-i-test.true) c.put_byte-place.ensures)
-
-pub shape_of-buf : goal.shape_of-buf
-shape_of-buf c = c.loop-i.invariant.1.same
+    rest_turn c.loop-b.invariant _ _ (each_next hex_of bytes c.loop-b.b-index (omega arith)) c.put_byte-place.ensures
 
 pub returns : goal.returns
-returns c = rest_done c.loop-i.invariant.1 (each_done hex_of c.args.bytes.now c.loop-i.i c.loop-i-test.false)
+returns c = rest_done c.loop-b.invariant (each_done hex_of c.args.bytes.now c.loop-b.b-index (omega arith))

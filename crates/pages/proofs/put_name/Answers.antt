@@ -1,3 +1,4 @@
+use Rattle.std.proofs.Common.{rules}
 use mathlib.Core.Path.{◌≡◌, refl}
 use Prim.Native.Nat.{ℕ}
 use mathlib.Core.List.{List, [], ◌∷◌, ◌++◌}
@@ -16,8 +17,8 @@ with_one : (name : List ℕ) → (length name ≡ 0 → ⊥) → name ++ bytes "
 with_one [] e = absurd (e refl)
 with_one (b ∷ bs) e = refl
 
-pub returns-then-name-eq0 : goal.returns-then-name-eq0
-returns-then-name-eq0 c = put_as c.put.ensures (without c.args.name.now c.if-name-eq0.true)
+pub returns-then-is_empty : goal.returns-then-is_empty
+returns-then-is_empty c = put_as c.put.ensures (without c.args.name.now (search rules))
 
 pub returns : goal.returns
-returns c = put_as (put_then c.put-named.ensures c.put-2.ensures) (with_one c.args.name.now c.if-name-eq0.false)
+returns c = put_as (put_then c.put-named.ensures c.put-2.ensures) (with_one c.args.name.now (search rules))

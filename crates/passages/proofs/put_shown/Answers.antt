@@ -6,11 +6,11 @@ use Rattle.entries.specs.Entries.{letters_text}
 use Rattle.passages.specs.Passages.{shown_text}
 use Rattle.passages.proofs.put_shown.Goals as goal
 
-pub returns-in-Stays : goal.returns-in-Stays
-returns-in-Stays c =
-    put_as c.put.ensures (sym (ap (λ d. shown_text c.args.html d c.args.display.now) c.in-Stays.is))
+pub returns-in-None : goal.returns-in-None
+returns-in-None c =
+    put_as c.put.ensures (sym (ap (λ d. shown_text c.args.html d c.args.display.now) c.in-None.is))
 
-pub returns-in-Shows : goal.returns-in-Shows
-returns-in-Shows c =
+pub returns-in-Some : goal.returns-in-Some
+returns-in-Some c =
     put_as c.put_text.ensures
-    (ap (letters_text c.args.html (label_word OnDisplay)) c.front.ensures ∙ sym (ap (λ d. shown_text c.args.html d c.args.display.now) c.in-Shows.is))
+    (ap (letters_text c.args.html (label_word OnDisplay)) c.front.ensures ∙ sym (ap (λ d. shown_text c.args.html d c.args.display.now) c.in-Some.is))

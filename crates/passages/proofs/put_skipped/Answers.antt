@@ -12,5 +12,5 @@ returns-then-count-eq0 c =
 
 pub returns : goal.returns
 returns c =
-    let head = put_as c.put_heading-told.ensures (ap (λ o. headed c.args.html Skipped o []) c.less-begin.ensures) in
+    let head = put_as c.put_heading-told.ensures (ap (λ o. headed c.args.html Skipped o []) c.saturating_sub-begin.ensures) in
     put_as (put_then (put_then head c.put_item-next.ensures) c.put_end.ensures) (rw (ne_eqb c.args.count 0 c.if-count-eq0.false))

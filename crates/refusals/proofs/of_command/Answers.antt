@@ -4,14 +4,14 @@ use Rattle.guard.specs.declared.Guard.{Guard}
 use Rattle.guard.specs.declared.Trial.{Trial}
 use Rattle.guard.specs.declared.Verdict.{Verdict}
 use Rattle.kinds.specs.declared.Command.{Command}
-use Rattle.sheet.specs.declared.Match.{Match}
+use Rattle.std.specs.Prelude.{ℕ, Option}
 use Rattle.books.specs.declared.Books.{Books}
 use Rattle.rules.specs.Views.{view_of}
 use Rattle.refusals.specs.Refusals.{against_view, against_verdict, against_command}
 use Rattle.refusals.proofs.of_command.Goals as goal
 
 -- what the guard says is asked of the command's own trial
-said : (g : Guard) (b : Books) (m : Match) (c : Command) (t : Trial) (v w : Verdict) → t ≡ trial_of c → v ≡ verdict_of g t → v ≡ w → against_verdict w b m (view_of c) ≡ against_command g b m c
+said : (g : Guard) (b : Books) (m : Option ℕ) (c : Command) (t : Trial) (v w : Verdict) → t ≡ trial_of c → v ≡ verdict_of g t → v ≡ w → against_verdict w b m (view_of c) ≡ against_command g b m c
 said g b m c t v w et ev ew = ap (λ z. against_verdict z b m (view_of c)) (sym ew ∙ ev ∙ ap (verdict_of g) et)
 
 pub returns-in-Free : goal.returns-in-Free

@@ -1,19 +1,14 @@
-use Prim.Native.Nat.{◌-◌}
-use native.Mathlib.Omega.{arith}
 use Rattle.sentences.proofs.Filling.{rest_start, rest_turn, rest_done}
 use Rattle.saying.proofs.Flags.{bits_next, bits_done}
 use Rattle.saying.proofs.bits.Goals as goal
 
 pub loop-bit-init : goal.loop-bit-init
-loop-bit-init c = (omega arith, rest_start _ c.least_size-end.ensures)
+loop-bit-init c = rest_start _ c.min-end.ensures
 
 pub loop-bit-preserved : goal.loop-bit-preserved
 loop-bit-preserved c =
-    (omega arith, rest_turn c.loop-bit.invariant.1 _ _ (bits_next c.loop-bit.bit c.args.place c.loop-bit.above (omega arith)) c.flag-end.ensures)
-
-pub shape_of-buf : goal.shape_of-buf
-shape_of-buf c = c.loop-bit.invariant.1.same
+    rest_turn c.loop-bit.invariant _ _ (bits_next c.loop-bit.bit c.args.place c.loop-bit.above c.loop-bit-test.true) c.flag-end.ensures
 
 pub returns : goal.returns
 returns c =
-    rest_done c.loop-bit.invariant.1 (bits_done c.loop-bit.bit c.args.place c.loop-bit.above c.loop-bit-test.false)
+    rest_done c.loop-bit.invariant (bits_done c.loop-bit.bit c.args.place c.loop-bit.above c.loop-bit-test.false)

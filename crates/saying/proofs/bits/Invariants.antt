@@ -1,10 +1,7 @@
-use Prim.Native.Nat.{◌-◌, ◌≤◌}
+use Prim.Native.Nat.{◌-◌}
 use Rattle.sentences.proofs.Filling.{Rest}
 use Rattle.saying.specs.Answers.{bits_text}
 use Rattle.saying.proofs.bits.Given as goal
 
 abbrev pub invariant-loop-bit : goal.invariant-loop-bit
-invariant-loop-bit l = (l.bit ≤ 7) × Rest l.initial.buf l.at (bits_text 7 0 l.place l.byte) (bits_text (7 - l.bit) l.bit l.place l.above) l.buf l.end
-
-abbrev pub decreases-loop-bit : goal.decreases-loop-bit
-decreases-loop-bit l = 7 - l.bit
+invariant-loop-bit l = Rest l.initial.buf l.at (bits_text 7 0 l.place l.byte) (bits_text (7 - l.bit) l.bit l.place l.above) l.buf l.end

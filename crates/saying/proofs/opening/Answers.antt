@@ -9,7 +9,3 @@ pub returns-then-brief : goal.returns-then-brief
 returns-then-brief c =
     let n = c.args.number in
     put_as (put_then (put_as c.worded-next.ensures (worded_as 17 c.reply_word.result (reply_word n) (n ∷ []) c.reply_word.ensures (reply_short n))) c.plain.ensures) (rw c.if-brief.true)
-
-pub returns : goal.returns
-returns c =
-    put_as c.sentence.ensures (rw c.if-brief.false)

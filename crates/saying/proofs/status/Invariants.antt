@@ -1,11 +1,7 @@
-use Prim.Native.Nat.{◌-◌, ◌≤◌}
-use lib.ListN.{length, drop}
+use lib.ListN.{drop}
 use Rattle.sentences.proofs.Filling.{Rest}
 use Rattle.saying.specs.Answers.{status_text}
 use Rattle.saying.proofs.status.Given as goal
 
 abbrev pub invariant-loop-i : goal.invariant-loop-i
-invariant-loop-i l = (l.i ≤ length l.bytes) × Rest l.initial.buf l.at (status_text 0 l.bytes) (status_text l.i (drop l.i l.bytes)) l.buf l.end
-
-abbrev pub decreases-loop-i : goal.decreases-loop-i
-decreases-loop-i l = length l.bytes - l.i
+invariant-loop-i l = Rest l.initial.buf l.at (status_text 0 l.bytes) (status_text l.i (drop l.i l.bytes)) l.buf l.end

@@ -1,19 +1,13 @@
-use Prim.Native.Nat.{◌-◌}
-use native.Mathlib.Omega.{arith}
 use Rattle.sentences.proofs.Filling.{rest_start, rest_turn, rest_done, data_next, data_done}
 use Rattle.sentences.proofs.put_data.Goals as goal
 
-pub loop-i-init : goal.loop-i-init
-loop-i-init c = (omega arith, rest_start _ c.least_size-place.ensures)
+pub loop-b-init : goal.loop-b-init
+loop-b-init c = rest_start _ c.min-place.ensures
 
-pub loop-i-preserved : goal.loop-i-preserved
-loop-i-preserved c =
-    let bytes = c.args.bytes.now in
-    (omega arith, rest_turn c.loop-i.invariant.1 _ _ (data_next bytes c.loop-i.i c.loop-i-test.true) c.put_shown-place.ensures)
-
-pub shape_of-buf : goal.shape_of-buf
-shape_of-buf c = c.loop-i.invariant.1.same
+pub loop-b-preserved : goal.loop-b-preserved
+loop-b-preserved c =
+    rest_turn c.loop-b.invariant _ _ (data_next c.args.bytes.now c.loop-b.b-index c.loop-b-test.true) c.put_shown-place.ensures
 
 pub returns : goal.returns
 returns c =
-    rest_done c.loop-i.invariant.1 (data_done c.args.bytes.now c.loop-i.i c.loop-i-test.false)
+    rest_done c.loop-b.invariant (data_done c.args.bytes.now c.loop-b.b-index c.loop-b-test.false)

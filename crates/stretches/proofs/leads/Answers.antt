@@ -1,23 +1,23 @@
-use mathlib.Core.Path.{sym, ◌∙◌}
+use mathlib.Core.Path.{◌≡◌, refl, sym, ◌∙◌}
+use mathlib.Core.Bool.{Bool, true, false, false≢true}
+use Prim.Native.Nat.{ℕ}
+use Rattle.std.proofs.Common.{IfSome}
+use Rattle.std.specs.Bool.{then_some}
+use Rattle.stretches.specs.Private.{Leads}
 use Rattle.stretches.proofs.Stretching.{leads_whole}
-use mathlib.Core.Bool.{false≢true}
+use Rattle.stretches.proofs.leads.Goals.{then-all_may_stand, else-all_may_stand}
 use Rattle.stretches.proofs.leads.Goals as goal
 
-pub returns-then-bytes-n : goal.returns-then-bytes-n
-returns-then-bytes-n c = λ e. absurd (false≢true e)
-
-pub heads-requires : goal.heads-requires
-heads-requires c = c.requires
-
-pub returns-then-not-heads : goal.returns-then-not-heads
-returns-then-not-heads c = λ e. absurd (false≢true e)
-
-pub returns-then-not-all_may_stand : goal.returns-then-not-all_may_stand
-returns-then-not-all_may_stand c = λ e. absurd (false≢true e)
+where_true : (P : ℕ → Type 0) (b : Bool) (n : ℕ) → (b ≡ true → P n) → IfSome (then_some b n) P
+where_true P true n h = h refl
+where_true P false n h = tt
 
 pub returns : goal.returns
-returns c e =
-    leads_whole c.args.n c.sum_of-sum.result c.args.bytes.now c.requires c.if-bytes-n.false
-    (c.heads.ensures (c.if-not-heads.false))
-    (sym c.all_may_stand.ensures ∙ c.if-not-all_may_stand.false)
-    c.sum_of-sum.ensures (c.closes.ensures e)
+returns c =
+    let bytes = c.args.bytes.now in
+    let front = c.in_ok-n.ensures in
+    rw c.then_some.ensures (where_true (λ n. Leads n bytes) c.if-all_may_stand.stands c.in_ok-n.n (λ e.
+    elim c.if-all_may_stand.branch [
+      | then-all_may_stand w ↦ leads_whole _ _ bytes front.small c.if-bytes-n.false front (sym c.all_may_stand.ensures ∙ w.if-all_may_stand.true) w.sum_of.ensures (w.closes-stands.ensures (sym w.stands-is ∙ e))
+      | else-all_may_stand w ↦ absurd (false≢true (sym w.if-all_may_stand.false ∙ sym w.stands-is ∙ e))
+    ]))

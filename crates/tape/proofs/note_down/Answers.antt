@@ -31,5 +31,5 @@ module _ (run : Run) (h : Hearing) (frame buffer : List ℕ) (total : ℕ) (out 
 
 pub returns : goal.returns
 returns c =
-    noted-so c.args.run c.args.heard c.args.frame.now c.args.buf.now c.args.total c.args.out.now c.args.orders.now c.least_size-count.result c.place_after-place.result c.append-written.result c.list_call-listed.result _ _
-    c.least_size-count.ensures c.place_after-place.ensures c.list_call-listed.ensures.value c.list_call-listed.ensures.orders_after c.append-written.ensures.value c.append-written.ensures.out_after
+    noted-so c.args.run c.args.heard c.args.frame.now c.args.buf.now c.args.total c.args.out.now c.args.orders.now c.min-count.result c.place_after-place.result c.append-written.result c.list_call-listed.result _ _
+    c.min-count.ensures c.place_after-place.ensures c.list_call-listed.ensures.value c.list_call-listed.ensures.orders_after c.append-written.ensures.value c.append-written.ensures.out_after

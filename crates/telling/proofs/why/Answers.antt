@@ -1,4 +1,4 @@
-use borrow.Author.Tests.{eq-eqb, ne_eqb}
+use borrow.Author.Tests.{ne_eqb}
 use mathlib.Core.Path.{◌∙◌}
 use mathlib.Core.List.{[]}
 use Rattle.words.proofs.Short.{reason_short}
@@ -6,11 +6,6 @@ use Rattle.words.specs.Names.{reason_word}
 use Rattle.sentences.proofs.Putting.{put_as}
 use Rattle.phrases.proofs.Wording.{worded_as}
 use Rattle.telling.proofs.why.Goals as goal
-
-pub returns-then-number-eq0 : goal.returns-then-number-eq0
-returns-then-number-eq0 c =
-    let number = c.args.number in
-    put_as c.plain.ensures (rw (eq-eqb number 0 c.if-number-eq0.true))
 
 pub returns : goal.returns
 returns c =

@@ -1,21 +1,13 @@
-use mathlib.Core.Path.{sym, ◌∙◌}
+use mathlib.Core.Path.{◌≡◌, refl, sym, ◌∙◌}
 use native.Mathlib.Omega.{arith}
-use Rattle.text.proofs.Cutting.{place_turn, place_found, place_done}
+use borrow.Author.Tests.{eq-eqb, ne_eqb}
+use Rattle.std.proofs.Common.{rules, tests}
+use Rattle.std.proofs.lemmas.Iterator.{YieldsList-from_slice, IsFirst-from_position, index_from_first}
+use Rattle.text.specs.Parts.{first_at}
 use Rattle.text.proofs.find.Goals as goal
-
-pub loop-i-init : goal.loop-i-init
-loop-i-init c = (omega arith, omega arith)
-
-pub returns-then-s-i : goal.returns-then-s-i
-returns-then-s-i c =
-    sym (c.loop-i.invariant.1 ∙ place_found c.args.b c.args.s.now c.loop-i.i c.loop-i-test.true c.if-s-i.true)
-
-pub loop-i-preserved : goal.loop-i-preserved
-loop-i-preserved c = (
-  omega arith,
-  c.loop-i.invariant.1 ∙ place_turn c.args.b c.args.s.now c.loop-i.i c.loop-i-test.true c.if-s-i.false,
-)
 
 pub returns : goal.returns
 returns c =
-    sym (c.loop-i.invariant.1 ∙ place_done c.args.b c.args.s.now c.loop-i.i c.loop-i-test.false)
+    let b = c.args.b in
+    let first = IsFirst-from_position _ _ c.position.result (λ x. x ≡ b) (λ x. x ≡ b → ⊥) c.position.ensures.ran (YieldsList-from_slice c.args.s.now cc) (λ x q k. search (rules, tests)) (λ x q k. search (rules, tests)) in
+    c.unwrap_or.ensures ∙ sym (index_from_first (first_at b) (λ x. x ≡ b) (λ x. x ≡ b → ⊥) refl (λ x xs e. rw (eq-eqb x b e)) (λ x xs e. rw (ne_eqb x b e) (omega arith)) c.args.s.now c.position.result first)

@@ -1,16 +1,10 @@
-use native.Mathlib.Omega.{arith}
-use lib.ListN.{length-set}
-use Rattle.text.proofs.Fours.{put_all, pairs_fit}
+use mathlib.Core.Path.{◌∙◌}
+use Rattle.text.proofs.Fours.{four_put, pairs_fit}
 use Rattle.text.proofs.put_four.Goals as goal
 
 pub overflow_sub-pairs : goal.overflow_sub-pairs
 overflow_sub-pairs c = pairs_fit _ c.requires.four_bound
 
-pub bounds-part-at-2 : goal.bounds-part-at-2
-bounds-part-at-2 c = rw length-set (omega arith)
-
-pub bounds-part-at-3 : goal.bounds-part-at-3
-bounds-part-at-3 c = rw (length-set, length-set) (omega arith)
-
 pub returns : goal.returns
-returns c = put_all _ _ _ c.requires.four_bound
+returns c =
+    four_put c.args.part.now c.args.at c.args.four _ c.requires.four_bound c.requires.at_in_bounds (c.copy_from_slice.ensures.after ∙ c.to_le_bytes.ensures)

@@ -1,4 +1,4 @@
-use Prim.Native.Nat.{◌≤◌, ◌%◌}
+use Prim.Native.Nat.{◌+◌, ◌*◌, ◌≤◌}
 use mathlib.Core.Path.{◌≡◌}
 use lib.ListN.{length}
 use lib.Seq.{sets}
@@ -8,7 +8,4 @@ use Rattle.text.proofs.write_fours.Given as goal
 -- The digits still to be written, put before those that were, make the whole field.
 abbrev pub invariant-loop-i : goal.invariant-loop-i
 invariant-loop-i l =
-    (l.i ≤ l.width) × (l.i % 4 ≡ l.width % 4) × (l.i ≤ length l.part) × (sets l.part 0 (digits l.i l.left) ≡ sets l.initial.part 0 (digits l.width l.n))
-
-abbrev pub decreases-loop-i : goal.decreases-loop-i
-decreases-loop-i l = l.i
+    (l.before + l.i * 4 ≤ length l.part) × (sets l.part 0 (digits (l.before + l.i * 4) l.left) ≡ sets l.initial.part 0 (digits l.width l.n))

@@ -1,4 +1,3 @@
-use Prim.Native.Nat.{◌≤◌}
 use mathlib.Core.Path.{◌≡◌}
 use lib.Seq.{sets}
 use Rattle.text.specs.Digits.{digits}
@@ -6,7 +5,4 @@ use Rattle.text.proofs.write_singly.Given as goal
 
 -- The digits still to be written, put before those that were, make the whole field.
 abbrev pub invariant-loop-i : goal.invariant-loop-i
-invariant-loop-i l = (l.i ≤ l.width) × (sets l.part 0 (digits l.i l.left) ≡ sets l.initial.part 0 (digits l.width l.n))
-
-abbrev pub decreases-loop-i : goal.decreases-loop-i
-decreases-loop-i l = l.i
+invariant-loop-i l = sets l.part 0 (digits l.i l.left) ≡ sets l.initial.part 0 (digits l.width l.n)

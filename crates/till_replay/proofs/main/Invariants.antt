@@ -1,9 +1,6 @@
 -- The buffers keep their lengths.
-use Rattle.std.proofs.Common.{◌-◌, ◌≡◌, length}
+use Rattle.std.proofs.Common.{◌≡◌, length}
 use Rattle.till_replay.proofs.main.Given as goal
 
 abbrev pub invariant-loop-events : goal.invariant-loop-events
 invariant-loop-events l = (length l.event ≡ 259) × (length l.buf ≡ 256)
-
-abbrev pub decreases-loop-events : goal.decreases-loop-events
-decreases-loop-events l = 0xFFFFFFFFFFFFFFFF - l.events

@@ -1,10 +1,5 @@
 use Rattle.text.proofs.Cutting.{cut_length}
-use Rattle.unfolding.proofs.Fields.{field_as}
 use Rattle.unfolding.proofs.field_at.Goals as goal
 
 pub slice_bounds-result-end : goal.slice_bounds-result-end
 slice_bounds-result-end c = cut_length 0x2C _ c.find-n.result c.find-n.ensures
-
-pub returns : goal.returns
-returns c =
-    field_as c.args.content.now c.args.from c.find-n.result c.find-n.ensures

@@ -1,12 +1,9 @@
 -- The loop's invariant: with the bits from here on put here, all are put.
-use Prim.Native.Nat.{◌-◌, ◌≤◌}
+use Prim.Native.Nat.{◌-◌}
 use Rattle.sentences.proofs.Filling.{Rest}
 use Rattle.unfolding.specs.Answers.{bits_text}
 use Rattle.unfolding.proofs.put_bits.Given as goal
 
 abbrev pub invariant-loop-bit : goal.invariant-loop-bit
 invariant-loop-bit l =
-    (l.bit ≤ 7) × Rest l.initial.buf l.at (bits_text l.html 7 0 l.place l.byte) (bits_text l.html (7 - l.bit) l.bit l.place l.above) l.buf l.end
-
-abbrev pub decreases-loop-bit : goal.decreases-loop-bit
-decreases-loop-bit l = 7 - l.bit
+    Rest l.initial.buf l.at (bits_text l.html 7 0 l.place l.byte) (bits_text l.html (7 - l.bit) l.bit l.place l.above) l.buf l.end

@@ -11,17 +11,7 @@ pub loop-from-init : goal.loop-from-init
 loop-from-init c =
     let content = c.args.content.now in
     let all : length content - 0 ≡ length content = omega arith in
-    (omega arith, omega arith, rw all (rest_start _ c.least_size-place.ensures))
-
-pub overflow_add-from : goal.overflow_add-from
-overflow_add-from c =
-    let content = c.args.content.now in
-    omega (arith, field_within content c.loop-from.from _ c.field_at-field.ensures (omega arith))
-
-pub overflow_add-from-in-loop-from : goal.overflow_add-from-in-loop-from
-overflow_add-from-in-loop-from c =
-    let content = c.args.content.now in
-    omega (arith, field_within content c.loop-from.from _ c.field_at-field.ensures (omega arith))
+    (omega arith, omega arith, rw all (rest_start _ c.min-place.ensures))
 
 pub loop-from-preserved : goal.loop-from-preserved
 loop-from-preserved c =
@@ -31,9 +21,6 @@ loop-from-preserved c =
       omega (arith, within),
       rest_turn c.loop-from.invariant.2 _ _ (fields_next c.args.html c.args.code content c.loop-from.i c.loop-from.from _ (omega arith) (omega arith) c.field_at-field.ensures) c.put_named-place.ensures,
     )
-
-pub shape_of-buf : goal.shape_of-buf
-shape_of-buf c = c.loop-from.invariant.2.same
 
 pub returns : goal.returns
 returns c =

@@ -6,7 +6,3 @@ pub returns-then-set : goal.returns-then-set
 returns-then-set c =
     put_as c.put_word.ensures
     (flag_as c.args.html c.args.set c.args.place c.args.bit c.status_word-name.result c.status_word-name.ensures c.front.result.now c.front.ensures c.if-set.true)
-
-pub returns : goal.returns
-returns c =
-    put_as c.put.ensures (rw c.if-set.false)

@@ -1,12 +1,8 @@
 -- The loop's invariant: with the status bytes from here on put here, all are put.
-use Prim.Native.Nat.{◌-◌, ◌≤◌}
-use lib.ListN.{length, drop}
+use lib.ListN.{drop}
 use Rattle.sentences.proofs.Filling.{Rest}
 use Rattle.unfolding.specs.Answers.{flags_text}
 use Rattle.unfolding.proofs.put_flags.Given as goal
 
 abbrev pub invariant-loop-i : goal.invariant-loop-i
-invariant-loop-i l = (l.i ≤ length l.six) × Rest l.initial.buf l.at (flags_text l.html 0 l.six) (flags_text l.html l.i (drop l.i l.six)) l.buf l.end
-
-abbrev pub decreases-loop-i : goal.decreases-loop-i
-decreases-loop-i l = length l.six - l.i
+invariant-loop-i l = Rest l.initial.buf l.at (flags_text l.html 0 l.six) (flags_text l.html l.i (drop l.i l.six)) l.buf l.end

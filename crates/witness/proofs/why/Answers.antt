@@ -18,6 +18,6 @@ returns-in-Again c =
 
 pub returns-in-Order : goal.returns-in-Order
 returns-in-Order c =
-    reason_is (record { books = c.args.books; sheet = c.args.sheet; guard = c.args.guard }) c.args.call c.args.frame.now _ _ _ c.least_size-end.result
+    reason_is (record { books = c.args.books; sheet = c.args.sheet; guard = c.args.guard }) c.args.call c.args.frame.now _ _ _ c.min-end.result
     c.parse-parsed.result c.search_in.result c.match_kept-said.result c.reason_of.result
-    c.in-Order.is c.requires c.least_size-end.ensures c.parse-parsed.ensures c.search_in.ensures c.match_kept-said.ensures c.reason_of.ensures
+    c.in-Order.is c.requires c.min-end.ensures c.parse-parsed.ensures c.search_in.ensures c.match_kept-said.ensures c.reason_of.ensures

@@ -24,4 +24,4 @@ overflow_mul-i c =
 
 pub returns : goal.returns
 returns c =
-    named c.args.guard c.args.op c.args.name.now c.least_size-n.result _ (sym c.is_op.ensures ∙ c.if-not-is_op.false) c.least_size-n.ensures c.put_bytes.ensures
+    named c.args.guard c.args.op c.args.name.now c.min-n.result _ (sym c.is_op.ensures ∙ c.if-not-is_op.false) c.min-n.ensures c.put_bytes.ensures

@@ -10,20 +10,12 @@ pub overflow_sub-i : goal.overflow_sub-i
 overflow_sub-i c =
     op_from c.args.op (sym c.is_op.ensures ∙ c.if-not-is_op.false)
 
-pub offset_bounds-digits-i : goal.offset_bounds-digits-i
-offset_bounds-digits-i c =
+pub offset_bounds-passwords-i : goal.offset_bounds-passwords-i
+offset_bounds-passwords-i c =
     omega (arith, op_to c.args.op (sym c.is_op.ensures ∙ c.if-not-is_op.false))
 
-pub bounds-digits-i : goal.bounds-digits-i
-bounds-digits-i c =
-    omega (arith, op_to c.args.op (sym c.is_op.ensures ∙ c.if-not-is_op.false))
-
-pub offset_bounds-values-i : goal.offset_bounds-values-i
-offset_bounds-values-i c =
-    omega (arith, op_to c.args.op (sym c.is_op.ensures ∙ c.if-not-is_op.false))
-
-pub bounds-values-i : goal.bounds-values-i
-bounds-values-i c =
+pub bounds-passwords-i : goal.bounds-passwords-i
+bounds-passwords-i c =
     omega (arith, op_to c.args.op (sym c.is_op.ensures ∙ c.if-not-is_op.false))
 
 pub returns : goal.returns

@@ -1,4 +1,3 @@
-use mathlib.Core.Path.{sym, ◌∙◌}
 use Rattle.kinds.proofs.Openings.{no_new, changed}
 use Rattle.kinds.proofs.operators.change_with.Goals as goal
 
@@ -8,4 +7,4 @@ returns-in_default c =
 
 pub returns : goal.returns
 returns c =
-    changed c.args.op c.args.old c.args.new.now c.in-Is.p (cc)
+    changed c.args.op c.args.old c.args.new.now c.in-Some.p (cc)

@@ -1,4 +1,4 @@
-use Rattle.wire.proofs.Building.{not_carried, no_status, around, length-enclosed, carriable_short, sendable_answer, too_short, cannot, can}
+use Rattle.wire.proofs.Building.{around, length-enclosed, carriable_short, sendable_answer, can}
 use mathlib.Core.Path.{◌≡◌, sym, ◌∙◌}
 use mathlib.Core.List.{◌∷◌, ◌++◌}
 use Prim.Native.Nat.{◌+◌}
@@ -8,32 +8,6 @@ use lib.Seq.{sets}
 use Rattle.wire.specs.Frame.{answer_of, enclosed}
 use Rattle.wire.specs.declared.Way.TheVariants.{ToTill}
 use Rattle.wire.proofs.build.build_answer.Goals as goal
-
-pub returns-then-buf-lt-ANSWER_ROOM : goal.returns-then-buf-lt-ANSWER_ROOM
-returns-then-buf-lt-ANSWER_ROOM c =
-    let a = c.args in
-    sym (too_short ToTill a.buf.now (answer_of a.seq a.code a.content.now a.status) c.if-buf-lt-ANSWER_ROOM.true)
-
-pub returns-then-not-can_carry : goal.returns-then-not-can_carry
-returns-then-not-can_carry c =
-    let a = c.args in
-    let m = answer_of a.seq a.code a.content.now a.status in
-    sym (cannot ToTill a.buf.now m c.if-buf-lt-ANSWER_ROOM.false (not_carried ToTill m (sym c.can_carry.ensures ∙ c.if-not-can_carry.true)))
-
-pub returns-then-not-all_may_stand : goal.returns-then-not-all_may_stand
-returns-then-not-all_may_stand c =
-    let a = c.args in
-    let m = answer_of a.seq a.code a.content.now a.status in
-    sym (cannot ToTill a.buf.now m c.if-buf-lt-ANSWER_ROOM.false (no_status ToTill m (sym c.all_may_stand.ensures ∙ c.if-not-all_may_stand.true)))
-
-pub finish-requires : goal.finish-requires
-finish-requires c =
-    let a = c.args in
-    let few = carriable_short a.seq a.code a.content.now (sym c.can_carry.ensures ∙ c.if-not-can_carry.false) in
-    record {
-      n_bound = omega arith;
-      n_in_bounds = omega arith;
-    }
 
 pub returns : goal.returns
 returns c =

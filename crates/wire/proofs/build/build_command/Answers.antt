@@ -4,28 +4,8 @@ use lib.ListN.{length}
 use lib.Seq.{sets}
 use Rattle.wire.specs.Frame.{command_of, enclosed}
 use Rattle.wire.specs.declared.Way.TheVariants.{ToDevice}
-use Rattle.wire.proofs.Building.{around, length-enclosed, carriable_short, sendable_command, too_short, cannot, can}
+use Rattle.wire.proofs.Building.{around, length-enclosed, carriable_short, sendable_command, can}
 use Rattle.wire.proofs.build.build_command.Goals as goal
-
-pub returns-then-buf-lt-COMMAND_ROOM : goal.returns-then-buf-lt-COMMAND_ROOM
-returns-then-buf-lt-COMMAND_ROOM c =
-    let a = c.args in
-    sym (too_short ToDevice a.buf.now (command_of a.seq a.code a.content.now) c.if-buf-lt-COMMAND_ROOM.true)
-
-pub returns-then-not-can_carry : goal.returns-then-not-can_carry
-returns-then-not-can_carry c =
-    let a = c.args in
-    sym (cannot ToDevice a.buf.now (command_of a.seq a.code a.content.now) c.if-buf-lt-COMMAND_ROOM.false
-    (sendable_command a.seq a.code a.content.now ∙ sym c.can_carry.ensures ∙ c.if-not-can_carry.true))
-
-pub enclose-requires : goal.enclose-requires
-enclose-requires c =
-    let a = c.args in
-    let few = carriable_short a.seq a.code a.content.now (sym c.can_carry.ensures ∙ c.if-not-can_carry.false) in
-    record {
-      n_bound = omega arith;
-      n_in_bounds = omega arith;
-    }
 
 pub returns : goal.returns
 returns c =

@@ -1,15 +1,13 @@
 use native.Mathlib.Omega.{arith}
-use Rattle.words.proofs.Table.{feed_within, behind, behind_last_lem}
+use Rattle.text.proofs.Cutting.{place_within}
+use Rattle.words.proofs.Table.{behind_feed}
 use Rattle.words.proofs.rows.behind_row.Goals as goal
 
-pub overflow_add-end : goal.overflow_add-end
-overflow_add-end c =
-    omega (arith, feed_within c.args.table.now c.args.at c.find.result c.find.ensures (omega arith))
+pub slice_bounds-part-count : goal.slice_bounds-part-count
+slice_bounds-part-count c = omega (arith, place_within 10 c.args.table.now)
 
-pub returns-then-end-table : goal.returns-then-end-table
-returns-then-end-table c =
-    (omega arith, omega arith, behind c.args.table.now c.args.at c.find.result c.find.ensures)
+pub slice_bounds-part-start : goal.slice_bounds-part-start
+slice_bounds-part-start c = omega (arith, place_within 10 c.args.table.now)
 
-pub returns : goal.returns
-returns c =
-    (omega arith, omega arith, behind_last_lem c.args.table.now c.args.at c.find.result c.find.ensures c.if-end-table.false)
+pub returns-in-len1-up : goal.returns-in-len1-up
+returns-in-len1-up c = behind_feed c.args.table.now c.find-end.result c.find-end.ensures

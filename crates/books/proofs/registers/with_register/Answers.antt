@@ -1,8 +1,0 @@
-use borrow.Author.Tests.{lt-ltb, le-ltb}
-use Rattle.books.proofs.registers.with_register.Goals as goal
-
-pub returns-then-i-lt4 : goal.returns-then-i-lt4
-returns-then-i-lt4 c = rw (c.with_registers.ensures, ← c.place_of-i.ensures, lt-ltb _ 4 c.if-i-lt4.true)
-
-pub returns : goal.returns
-returns c = rw (c.with_drawer.ensures, ← c.place_of-i.ensures, le-ltb _ 4 c.if-i-lt4.false)

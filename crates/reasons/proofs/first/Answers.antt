@@ -1,7 +1,0 @@
-use Rattle.reasons.proofs.first.Goals as goal
-
-pub returns-then-test : goal.returns-then-test
-returns-then-test c = rw c.if-test.true
-
-pub returns : goal.returns
-returns c = rw c.if-test.false
