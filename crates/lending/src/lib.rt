@@ -45,19 +45,14 @@ fn hear_few(
     requires { lines < 512 }
     ensures { (result ≡ stayed_as kept) × ((frame.new ≡ frame.old) × ((last.new ≡ last.old) × ((buf.new ≡ buf.old) × (display.new ≡ display.old)))) }
 {
-    let device = kept.device;
-    let begun = machine::begin(device, frame, display, buf.len(), lines, bytes, from);
-    let ended = giving::finish(begun, 0, sheet::blank_line(), last, buf);
-    let hearing = ended.hearing;
-    let given = hearing.given;
-    let call = hearing.call;
-    let shows = given.shows;
+    let begun = machine::begin(kept.device, frame, display, buf.len(), lines, bytes, from);
+    let hearing = giving::finish(begun, 0, sheet::blank_line(), last, buf).hearing;
     Next {
         kept,
-        call,
-        number: given.number,
-        count: given.count,
-        shows,
+        call: hearing.call,
+        number: hearing.given.number,
+        count: hearing.given.count,
+        shows: hearing.given.shows,
         taken: hearing.taken,
     }
 }

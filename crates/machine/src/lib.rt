@@ -1,7 +1,7 @@
 // The device as it stands between two bytes, and the first half of a call of it, which does not touch the sheet (PROTOCOL 1.1, 8.3).
 #![tactic(auto)]
 
-ghost use Rattle.std.specs.Prelude.{◌≡◌, length, drop};
+ghost use Rattle.std.specs.Prelude.{◌≡◌, drop};
 ghost use Rattle.display.specs.Display.{displayed};
 ghost use Rattle.machine.specs.Device.{fresh_fields, fields_anew};
 ghost use Rattle.machine.specs.Beginning.{long_enough, asks_nothing, texts_by, asked_of, not_begun, beginning};

@@ -230,12 +230,11 @@ pub fn byte(
 fn hear(
     next: u8,
     a: Attempt,
-    frame: &[u8],
+    frame: &[u8; FRAME_ROOM],
     answer: &mut [u8; FRAME_ROOM],
     b: u8,
     buf: &mut [u8],
 ) -> Said
-    requires { length frame.now ≡ 256 }
     ensures value { result ≡ spoken (heard_by next a frame.now answer.old b) }
     ensures answer_after { answer.new ≡ held_in answer.old (heard_by next a frame.now answer.old b).state.pending }
     ensures buf_after { buf.new ≡ sets buf.old 0 (heard_by next a frame.now answer.old b).puts }
@@ -300,8 +299,7 @@ fn answered(next: u8, answer: &[u8], n: usize, buf: &mut [u8]) -> Said
 }
 
 // The same frame again, up to the fifth try.
-fn failed_try(next: u8, a: Attempt, frame: &[u8], buf: &mut [u8]) -> Said
-    requires { length frame.now ≡ 256 }
+fn failed_try(next: u8, a: Attempt, frame: &[u8; FRAME_ROOM], buf: &mut [u8]) -> Said
     ensures value { result ≡ spoken (failed_by next a frame.now) }
     ensures buf_after { buf.new ≡ sets buf.old 0 (failed_by next a frame.now).puts }
 {

@@ -1,7 +1,7 @@
 // One call of the device, and why the command that it carried out was refused (DECISIONS 72).
 #![tactic(auto)]
 
-ghost use Rattle.std.specs.Prelude.{◌≡◌, ◌≤◌, length, drop};
+ghost use Rattle.std.specs.Prelude.{◌≡◌, ◌≤◌, drop};
 ghost use Rattle.kept.specs.ByValue.{machine_of};
 ghost use Rattle.machine.specs.Hearing.{carried_by};
 ghost use Rattle.witness.specs.Witness.{reason_among, seen_of, witnessed};
@@ -44,19 +44,20 @@ pub fn see(
 }
 
 // The first reason against a call's command. An order's data stands in the frame from its fourth byte on.
-fn why(guard: Guard, books: Books, sheet: [Line; MOST_LINES], call: Call, frame: &[u8]) -> Reason
-    requires { length frame.now ≡ 256 }
+fn why(
+    guard: Guard,
+    books: Books,
+    sheet: [Line; MOST_LINES],
+    call: Call,
+    frame: &[u8; FRAME_ROOM],
+) -> Reason
     ensures { result ≡ reason_among (record { books = books; sheet = sheet; guard = guard }) (carried_by call frame.now) }
 {
-    match call {
-        Call::Quiet => Reason::Done,
-        Call::Nak => Reason::Done,
-        Call::Again => Reason::Done,
-        Call::Order { code, count, .. } => {
-            let end = count.min(MOST_HELD) + 3;
-            let parsed = command::parse(code, &frame[3..end]);
-            let said = matching::match_kept(sheet, carrying::search_in(books, parsed));
-            refusals::reason_of(guard, books, said, parsed)
-        }
-    }
+    let Call::Order { code, count, .. } = call else {
+        return Reason::Done;
+    };
+    let end = count.min(MOST_HELD) + 3;
+    let parsed = command::parse(code, &frame[3..end]);
+    let said = matching::match_kept(sheet, carrying::search_in(books, parsed));
+    refusals::reason_of(guard, books, said, parsed)
 }

@@ -1,7 +1,7 @@
 -- Every word has room in a text by value, and is read back from it.
 use Rattle.std.proofs.lemmas.Bool.{and_parts}
 use Prim.Native.Nat.{ℕ, zero, suc, ◌+◌, ◌*◌, ◌≤◌, min}
-use mathlib.Core.Path.{◌≡◌, refl, ap}
+use mathlib.Core.Path.{◌≡◌, refl}
 use mathlib.Core.Bool.{Bool, true, false, cond, ◌&&◌}
 use mathlib.Core.List.{List, [], ◌∷◌}
 use native.Mathlib.Omega.{arith}
@@ -10,14 +10,12 @@ use lib.ListN.{length, take, drop, get_or, replicate, length-replicate}
 use lib.Seq.{sets, sets-eq, take-append_seam}
 use borrow.Author.Tests.{leb-true}
 use Rattle.text.specs.Parts.{first_at}
-use Rattle.letters.specs.Letters.{bytes}
 use Rattle.reasons.specs.declared.Reason.{Reason}
+use Rattle.reasons.specs.declared.Reason.TheVariants.{Done, Syntax, OutOfRange, Unknown, WrongPassword, Locked, ReceiptOpen, ManyReceipts, MemoryFull, NoFiscal, PaymentDone, ManyLines, GroupDisabled, OffAboveLine, NoLineBack, OffAboveGroup, NoTotal, OffAboveTotal, PaidInFull, AboveRest, NotPaid, NoText, LittleCash, ManyFiscal, LineOver, FinishedOver, NotTheSum, TotalOver, GroupOver, RegisterOver, DayOver, MemoryOver, CashOver, InOver, OutOver}
 use Rattle.words.specs.Words.{words_of}
 use Rattle.words.specs.declared.rows.Words.{Words}
 use Rattle.words.specs.Names.{codes, command_words, command_word, reply_words, reply_word, reason_word, status_words, status_word}
-use Rattle.words.specs.Fields.{groups, counters, subtotal, closure, drawer, field_words, field_word, paid_word}
-use Rattle.words.specs.Private.{reason_place}
-use Rattle.words.proofs.Reasons.{table, told}
+use Rattle.words.specs.Fields.{groups, counters, subtotal, closure, drawer, field_words, field_word}
 
 abbrev short : List (List ℕ) → Bool
 short [] = true
@@ -35,7 +33,41 @@ pub reply_short : (number : ℕ) → length (reply_word number) ≤ 64
 reply_short number = row_short reply_words refl number
 
 pub reason_short : (r : Reason) → length (reason_word r) ≤ 64
-reason_short r = let h : length (get_or table (reason_place r) []) ≤ 64 = row_short table refl (reason_place r) in omega (arith, ap length (told r), h)
+reason_short Done = omega arith
+reason_short Syntax = omega arith
+reason_short OutOfRange = omega arith
+reason_short Unknown = omega arith
+reason_short WrongPassword = omega arith
+reason_short Locked = omega arith
+reason_short ReceiptOpen = omega arith
+reason_short ManyReceipts = omega arith
+reason_short MemoryFull = omega arith
+reason_short NoFiscal = omega arith
+reason_short PaymentDone = omega arith
+reason_short ManyLines = omega arith
+reason_short GroupDisabled = omega arith
+reason_short OffAboveLine = omega arith
+reason_short NoLineBack = omega arith
+reason_short OffAboveGroup = omega arith
+reason_short NoTotal = omega arith
+reason_short OffAboveTotal = omega arith
+reason_short PaidInFull = omega arith
+reason_short AboveRest = omega arith
+reason_short NotPaid = omega arith
+reason_short NoText = omega arith
+reason_short LittleCash = omega arith
+reason_short ManyFiscal = omega arith
+reason_short LineOver = omega arith
+reason_short FinishedOver = omega arith
+reason_short NotTheSum = omega arith
+reason_short TotalOver = omega arith
+reason_short GroupOver = omega arith
+reason_short RegisterOver = omega arith
+reason_short DayOver = omega arith
+reason_short MemoryOver = omega arith
+reason_short CashOver = omega arith
+reason_short InOver = omega arith
+reason_short OutOver = omega arith
 
 pub status_short : (byte bit : ℕ) → length (status_word byte bit) ≤ 64
 status_short byte bit = go (ltb bit 8 && ltb byte 6)
@@ -64,14 +96,6 @@ fields_short code =
 
 pub field_short : (code i : ℕ) → length (field_word code i) ≤ 64
 field_short code i = row_short (field_words code) (fields_short code) i
-
-pub paid_short : (mark : ℕ) → length (paid_word mark) ≤ 64
-paid_short mark = go (eqb mark 0x44) (eqb mark 0x52)
-  where
-    go : (left full : Bool) → length (cond left (bytes "left to pay") (cond full (bytes "paid in full; the change") (bytes ""))) ≤ 64
-    go true full = omega arith
-    go false true = omega arith
-    go false false = omega arith
 
 abbrev zeros : List ℕ
 zeros = replicate 64 0

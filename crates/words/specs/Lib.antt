@@ -2,4 +2,3 @@ pub mod Words
 pub mod Rows
 pub mod Names
 pub mod Fields
-pub mod Private

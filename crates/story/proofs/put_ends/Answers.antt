@@ -1,15 +1,11 @@
 use mathlib.Core.Path.{ap, ◌∙◌}
-use borrow.Author.Tests.{not-true, not-false}
+use borrow.Author.Tests.{not-false}
 use Rattle.items.specs.Items.{cut_items}
 use Rattle.items.specs.declared.Kind.TheVariants.{Cut}
 use Rattle.sentences.proofs.Putting.{put_as, put_then}
 use Rattle.story.specs.Story.{part_text}
-use Rattle.story.proofs.Choosing.{ends_outside, ends_cut}
+use Rattle.story.proofs.Choosing.{ends_cut}
 use Rattle.story.proofs.put_ends.Goals as goal
-
-pub returns-then-not-reader : goal.returns-then-not-reader
-returns-then-not-reader c =
-    put_as c.put_skipped.ensures (ends_outside c.args.html c.args.trail c.args.shadow.now (not-true c.args.trail.reader.inside c.if-not-reader.true))
 
 pub returns : goal.returns
 returns c =

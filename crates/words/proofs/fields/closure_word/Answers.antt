@@ -1,8 +1,0 @@
-use mathlib.Core.Path.{refl, ap, ◌∙◌}
-use Rattle.words.specs.Words.{words_of}
-use Rattle.words.specs.Fields.{closure}
-use Rattle.words.proofs.Table.{in_table}
-use Rattle.words.proofs.fields.closure_word.Goals as goal
-
-pub returns : goal.returns
-returns c = c.row.ensures ∙ ap words_of (in_table closure refl _ refl c.args.i)
