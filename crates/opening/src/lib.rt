@@ -184,12 +184,12 @@ fn refuse(errors: Stderr) {
 fn arguments<R: Env>(rt: &R) -> Option<Asked>
     ensures { Arguments result }
 {
-    let mut asked = options::none_asked();
+    let mut asked = Some(options::none_asked());
     for place in 1..usize::MAX {
         let Some(word) = argument(rt, place) else {
             return options::asked_of(asked, place);
         };
-        asked = options::asked_with(asked, place, word)?;
+        asked = options::asked_with(asked, place, word);
     }
     options::asked_of(asked, usize::MAX)
 }

@@ -34,23 +34,21 @@ named_at asked place =
     cond (is_line asked.line place) asked
     (record { line = asked.line; recordings = Some (record { first = first_of asked.recordings place; last = place }) })
 
-abbrev pub asked_with : Asked → (place : ℕ) → Argument → Option Asked
-asked_with asked place Sign = signed_at place
-asked_with asked place Name = Some (named_at asked place)
-asked_with asked place Neither = None
+abbrev pub asked_with : Option Asked → (place : ℕ) → Argument → Option Asked
+asked_with None place a = None
+asked_with (Some asked) place Sign = signed_at place
+asked_with (Some asked) place Name = Some (named_at asked place)
+asked_with (Some asked) place Neither = None
 
 -- -l alone is of no form. The program's own name is counted, and has place 0.
-abbrev pub asked_of : Asked → (count : ℕ) → Option Asked
-asked_of asked count = cond (ltb (unwrap_or asked.line 0) count) (Some asked) None
+abbrev pub asked_of : Option Asked → (count : ℕ) → Option Asked
+asked_of None count = None
+asked_of (Some asked) count = cond (ltb (unwrap_or asked.line 0) count) (Some asked) None
 
 -- one argument behind the other, from a place on
-abbrev pub asked_then : Option Asked → (Asked → Option Asked) → Option Asked
-asked_then None more = None
-asked_then (Some asked) more = more asked
-
-abbrev pub asked_from : Asked → (place : ℕ) → List Argument → Option Asked
-asked_from asked place [] = Some asked
-asked_from asked place (a ∷ rest) = asked_then (asked_with asked place a) (λ more. asked_from more (place + 1) rest)
+abbrev pub asked_from : Option Asked → (place : ℕ) → List Argument → Option Asked
+asked_from asked place [] = asked
+asked_from asked place (a ∷ rest) = asked_from (asked_with asked place a) (place + 1) rest
 
 abbrev pub asked_for : List Argument → Option Asked
-asked_for arguments = asked_then (asked_from none_asked 1 arguments) (λ asked. asked_of asked (length arguments + 1))
+asked_for arguments = asked_of (asked_from (Some none_asked) 1 arguments) (length arguments + 1)

@@ -63,11 +63,12 @@ pub fn none_asked() -> Asked
     }
 }
 
-// With one argument more, at its place; the first has place 1. None is asked for by arguments that are of no form: -l stands first, and LINE behind
-// it.
-pub fn asked_with(asked: Asked, place: usize, a: Argument) -> Option<Asked>
+// With one argument more, at its place; the first has place 1. None is asked for by arguments that are of no form, whatever stands behind
+// them: -l stands first, and LINE behind it.
+pub fn asked_with(asked: Option<Asked>, place: usize, a: Argument) -> Option<Asked>
     ensures { result ≡ asked_with asked place a }
 {
+    let asked = asked?;
     match a {
         Argument::Sign if place == 1 => Some(Asked {
             line: Some(2),
@@ -93,9 +94,10 @@ fn named(asked: Asked, place: usize) -> Asked
 }
 
 // Behind the last of them; `count` counts the program's own name too. A LINE that is asked for has to be there.
-pub fn asked_of(asked: Asked, count: usize) -> Option<Asked>
+pub fn asked_of(asked: Option<Asked>, count: usize) -> Option<Asked>
     ensures { result ≡ asked_of asked count }
 {
+    let asked = asked?;
     (asked.line.unwrap_or(0) < count).then_some(asked)
 }
 
