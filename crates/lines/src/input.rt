@@ -1,5 +1,6 @@
 // Lines on standard input, one by one, so that they may be typed.
-ghost use Rattle.lines.specs.Lines.{LineRead, ActRead};
+ghost use Rattle.std.specs.Prelude.{◌≡◌};
+ghost use Rattle.lines.specs.Lines.{told, act_in, content_in, LineRead, ActRead};
 
 use crate::{LINE_ROOM, gather};
 use script::{Act, Mistake};
@@ -14,34 +15,51 @@ pub struct Next {
 }
 
 // The next line goes to the front of `line`, the data of its command to that of `content`. Behind the last line, and where the input can't be
-// read, there is none.
-pub fn next_act(input: Stdin, errors: Stderr, line: &mut [u8], content: &mut [u8]) -> Option<Next>
-    ensures { ActRead line.old line.new content.old content.new result }
+// read, there is none: what came of it is told all the same.
+pub fn next_act(
+    input: Stdin,
+    errors: Stderr,
+    line: &mut [u8],
+    content: &mut [u8],
+) -> Result<Next, Next>
+    ensures { ActRead line.old line.new content.old content.new (told result) }
 {
-    let count = next_line(input, errors, line)?;
-    if LINE_ROOM < count {
-        return Some(Next {
-            act: Err(Mistake::TooLong),
-            count,
-        });
+    match next_line(input, errors, line) {
+        Ok(count) => Ok(said(&*line, count, content)),
+        Err(count) => Err(said(&*line, count, content)),
     }
-    let act = script::read_line(front(line, count), content);
-    Some(Next { act, count })
 }
 
-// Of a line that is too long no more than one byte too many is read. What stands before the end of the input is a line too.
-fn next_line(mut input: Stdin, errors: Stderr, line: &mut [u8]) -> Option<usize>
-    ensures { LineRead line.old line.new result }
+// What the bytes of a line say.
+fn said(line: &[u8], count: usize, content: &mut [u8]) -> Next
+    ensures value { result ≡ record { act = act_in count line.now content.old; count = count } }
+    ensures content_after { content.new ≡ content_in count line.now content.old }
+{
+    if LINE_ROOM < count {
+        return Next {
+            act: Err(Mistake::TooLong),
+            count,
+        };
+    }
+    let act = script::read_line(front(line, count), content);
+    Next { act, count }
+}
+
+// How many bytes the next line has, or came of one that is not there. Of a line that is too long no more than one byte too many is read. What
+// stands before the end of the input is a line too.
+fn next_line(mut input: Stdin, errors: Stderr, line: &mut [u8]) -> Result<usize, usize>
+    ensures { LineRead line.old line.new (told result) }
 {
     let mut count: usize = 0;
     for _ in 0..=LINE_ROOM {
         let mut byte = [0u8; 1];
         match input.read(&mut byte) {
-            Ok(0) => return (0 < count).then_some(count),
+            Ok(0) if count == 0 => return Err(count),
+            Ok(0) => return Ok(count),
             Ok(_) => {}
             Err(why) => {
                 unread(errors, why);
-                return None;
+                return Err(count);
             }
         }
         let gathered = gather(line, count, &byte);
@@ -50,7 +68,7 @@ fn next_line(mut input: Stdin, errors: Stderr, line: &mut [u8]) -> Option<usize>
             break;
         }
     }
-    Some(count)
+    Ok(count)
 }
 
 fn unread(errors: Stderr, why: Error) {
