@@ -54,8 +54,8 @@ fn play(input: Stdin, to: Outlets, line: &File, keep: bool) {
     for _ in 0..u64::MAX {
         match clerk.phase {
             Phase::Ended => return,
-            Phase::Stopped(stop) => {
-                tell::stopped(to, clerk.lines, stop);
+            Phase::Stopped => {
+                tell::stopped(to, clerk.lines, clerk.why);
                 return;
             }
             _ => {}

@@ -21,8 +21,8 @@ pub(crate) fn says(to: Outlets, word: Word, got: &[u8]) {
 }
 
 // What is wrong with a line of the script, or stops it.
-pub(crate) fn stopped(to: Outlets, line: u64, stop: Stop) {
+pub(crate) fn stopped(to: Outlets, line: u64, why: Option<Stop>) {
     let mut text = [0u8; TEXT_ROOM];
-    let n = phrases::wrong(&mut text, 0, line, clerk::number(stop));
+    let n = phrases::wrong(&mut text, 0, line, why.map_or(0, clerk::number));
     system::write(&to.errors, front(&text, n));
 }

@@ -19,7 +19,6 @@ use Rattle.till.specs.declared.Word.TheVariants.{Idle, Waiting, SendAgain, Answe
 use Rattle.clerk.specs.declared.Clerk.{Clerk}
 use Rattle.clerk.specs.declared.Phase.{Phase}
 use Rattle.clerk.specs.declared.Phase.TheVariants.{Plays, Hears, Stopped}
-use Rattle.clerk.specs.declared.Stop.{Stop}
 use Rattle.clerk.specs.declared.Stop.TheVariants as stop
 use Rattle.clerk.specs.Clerk.{most_reads, next_of, is_hearing, halted, written_by, read_by, heard_by, stops, told_of}
 use Rattle.clerk.specs.Reads.{listened}
@@ -110,13 +109,13 @@ a_try_ends frame c answer buffer parts e h =
     false≢true (sym (reads_end frame (written_by c) answer buffer parts (omega arith) (omega arith)) ∙ ap is_hearing h)
 
 -- SCRIPTS 8: only UNFINISHED (9) stops a script behind a command, and only where it is not told -k
-pub only_unfinished_stops : (keep : Bool) (c : Clerk) (why : Stop) → (told_of keep c).phase ≡ Stopped why → (keep ≡ false) × (number_of c.word ≡ 9)
-only_unfinished_stops keep c why = go keep c.word
+pub only_unfinished_stops : (keep : Bool) (c : Clerk) → (told_of keep c).phase ≡ Stopped → (keep ≡ false) × (number_of c.word ≡ 9)
+only_unfinished_stops keep c = go keep c.word
   where
-    plays_on : {A : Type 0} → Plays ≡ Stopped why → A
+    plays_on : {A : Type 0} → Plays ≡ Stopped → A
     plays_on e = absurd (false≢true (sym (ap is_playing e)))
 
-    go : (k : Bool) (word : Word) → (cond (stops k word) (halted c stop.Unfinished) (record c { phase = Plays })).phase ≡ Stopped why → (k ≡ false) × (number_of word ≡ 9)
+    go : (k : Bool) (word : Word) → (cond (stops k word) (halted c stop.Unfinished) (record c { phase = Plays })).phase ≡ Stopped → (k ≡ false) × (number_of word ≡ 9)
     go k Idle e = plays_on e
     go k (Waiting count) e = plays_on e
     go k (SendAgain count) e = plays_on e

@@ -1,5 +1,5 @@
 -- SCRIPTS 8, LINE 5: a script sent over a real line, by a till end.
-use Rattle.std.specs.Prelude.{ℕ, ◌-◌, Bool, true, false, cond, not, ◌||◌, List, [], eqb, length, take, Result, Ok, Err}
+use Rattle.std.specs.Prelude.{ℕ, ◌-◌, Bool, true, false, Some, None, cond, not, ◌||◌, List, [], eqb, length, take, Result, Ok, Err}
 use Rattle.std.proofs.lemmas.List.Edits.{sets}
 use Rattle.exchange.specs.Exchange.{Heard, heard_some, heard_back}
 use Rattle.script.specs.declared.Act.{Act}
@@ -14,7 +14,7 @@ use Rattle.till.specs.declared.Word.{Word}
 use Rattle.till.specs.declared.Word.TheVariants.{Idle, Waiting, SendAgain, Answered, Unfinished, TooShort, NotSent}
 use Rattle.clerk.specs.declared.Clerk.{Clerk}
 use Rattle.clerk.specs.declared.Phase.{Phase}
-use Rattle.clerk.specs.declared.Phase.TheVariants.{Plays, Sends, Hears, Tells, Ended, Stopped}
+use Rattle.clerk.specs.declared.Phase.TheVariants.{Plays, Sends, Hears, Tells, Ended, Stopped, Other}
 use Rattle.clerk.specs.declared.Stop.{Stop}
 use Rattle.clerk.specs.declared.Stop.TheVariants.{Wrong, Fault}
 use Rattle.clerk.specs.declared.Stop.TheVariants as stop
@@ -31,7 +31,7 @@ number_of stop.Unfinished = 7
 
 -- SCRIPTS 8: a fresh till end, and no line of the script read
 abbrev pub fresh_clerk : Clerk
-fresh_clerk = record { till = till_of fresh_state; word = Idle; phase = Plays; lines = 0; reads = 0 }
+fresh_clerk = record { till = till_of fresh_state; word = Idle; phase = Plays; lines = 0; why = None; reads = 0 }
 
 -- SCRIPTS 1: the script has no line more
 abbrev pub end_of : Clerk → Clerk
@@ -68,7 +68,7 @@ abbrev pub counted : Clerk → Clerk
 counted c = record c { lines = one_more c.lines }
 
 abbrev pub halted : Clerk → Stop → Clerk
-halted c stop = record c { phase = Stopped stop }
+halted c stop = record c { phase = Stopped; why = Some stop }
 
 abbrev pub unsent : Clerk → (frame buffer : List ℕ) → Begun
 unsent c frame buffer = record { clerk = c; frame = frame; buffer = buffer }
@@ -90,7 +90,8 @@ is_hearing Sends = false
 is_hearing Hears = true
 is_hearing Tells = false
 is_hearing Ended = false
-is_hearing (Stopped stop) = false
+is_hearing Stopped = false
+is_hearing (Other n) = false
 
 -- LINE 5.1: behind a read that gives nothing, and behind the last one, no byte comes in time (PROTOCOL 7.5)
 abbrev pub is_last : (reads : ℕ) → (bytes : List ℕ) → Bool

@@ -12,7 +12,7 @@ use sentences::front;
 use till::{Said, Till, Word};
 
 // What comes next: a line of the script, a frame to write, bytes to read, or a word of the till end to tell; or the script is at its end, or
-// something stops it.
+// something stops it. A step of the caller's own is carried along.
 #[derive(Clone, Copy, PartialEq, Eq)]
 pub enum Phase {
     Plays,
@@ -20,7 +20,8 @@ pub enum Phase {
     Hears,
     Tells,
     Ended,
-    Stopped(Stop),
+    Stopped,
+    Other(u8),
 }
 
 // SCRIPTS 8: what stops a script: a wrong line, a fault in it, or a command that ended UNFINISHED.
@@ -45,13 +46,15 @@ pub fn number(stop: Stop) -> u8
 // LINE 5.1: an answer has 217 bytes at most: where so many reads brought none, none comes.
 pub const MOST_READS: u64 = 1000;
 
-// The till end and its last word; the lines of the script so far; the reads that are left to the try under way.
+// The till end and its last word; the lines of the script so far; what stopped it, where something did; the reads that are left to the try
+// under way.
 #[derive(Clone, Copy)]
 pub struct Clerk {
     pub till: Till,
     pub word: Word,
     pub phase: Phase,
     pub lines: u64,
+    pub why: Option<Stop>,
     pub reads: u64,
 }
 
@@ -64,6 +67,7 @@ pub fn fresh() -> Clerk
         word: Word::Idle,
         phase: Phase::Plays,
         lines: 0,
+        why: None,
         reads: 0,
     }
 }
@@ -105,7 +109,8 @@ fn stopped(clerk: Clerk, stop: Stop) -> Clerk
     ensures { result ≡ halted clerk stop }
 {
     Clerk {
-        phase: Phase::Stopped(stop),
+        phase: Phase::Stopped,
+        why: Some(stop),
         ..clerk
     }
 }

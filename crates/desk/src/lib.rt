@@ -21,7 +21,7 @@ use wire::ANSWER_ROOM;
 pub const BACK_ROOM: usize = 1024;
 
 // What comes next: a line of the script, a try of its command, or what the till end makes of what came back; or the script is at its end, or a
-// line of it is wrong.
+// line of it is wrong. A step of the caller's own is carried along.
 #[derive(Clone, Copy, PartialEq, Eq)]
 pub enum Phase {
     Plays,
@@ -29,6 +29,7 @@ pub enum Phase {
     Hears,
     Ended,
     Stopped,
+    Other(u8),
 }
 
 #[derive(Clone, Copy)]

@@ -10,7 +10,7 @@ use Rattle.writing.specs.declared.Stand.TheVariants.{Plain}
 use Rattle.script.specs.declared.Act.{Act}
 use Rattle.script.specs.declared.Act.TheVariants.{Nothing, Command, Happens}
 use Rattle.script.specs.declared.Mistake.{Mistake}
-use Rattle.script.specs.declared.Mistake.TheVariants.{NoCommand, NoEscape, TooLong, NoTry, NoFault}
+use Rattle.script.specs.declared.Mistake.TheVariants.{NoCommand, NoEscape, TooLong, NoTry, NoFault, Other}
 
 -- SCRIPTS 6: the number of what is wrong with a line
 abbrev pub number_of : Mistake → ℕ
@@ -19,6 +19,7 @@ number_of NoEscape = 2
 number_of TooLong = 3
 number_of NoTry = 4
 number_of NoFault = 5
+number_of (Other n) = n
 
 -- SCRIPTS 1: a line of no bytes, and a comment
 abbrev pub says_nothing : List ℕ → Bool

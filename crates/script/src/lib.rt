@@ -28,21 +28,29 @@ pub enum Act {
     },
 }
 
-// SCRIPTS 6: what is wrong with a line.
+// SCRIPTS 6: what is wrong with a line; or another number, which is the caller's own.
 #[derive(Clone, Copy, PartialEq, Eq)]
 pub enum Mistake {
-    NoCommand = 1,
-    NoEscape = 2,
-    TooLong = 3,
-    NoTry = 4,
-    NoFault = 5,
+    NoCommand,
+    NoEscape,
+    TooLong,
+    NoTry,
+    NoFault,
+    Other(u8),
 }
 
 // The number that SCRIPTS 6 gives it.
 pub fn number(mistake: Mistake) -> u8
     ensures { result ≡ number_of mistake }
 {
-    mistake as u8
+    match mistake {
+        Mistake::NoCommand => 1,
+        Mistake::NoEscape => 2,
+        Mistake::TooLong => 3,
+        Mistake::NoTry => 4,
+        Mistake::NoFault => 5,
+        Mistake::Other(n) => n,
+    }
 }
 
 // One line, without its line feed. The data of a command goes to the front of `buf`.
