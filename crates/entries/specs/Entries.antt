@@ -14,7 +14,7 @@ line_text html label told = opened html label ++ (told ++ closed html)
 -- EXPLAIN 2: a value with its label; no line where there is none
 abbrev pub item_text : (html : Bool) → Option Item → List ℕ
 item_text html None = []
-item_text html (Some item) = line_text html (label_word item.label) (bytes " " ++ value_text item.value)
+item_text html (Some item) = line_text html (label_word item.label) (bytes " " ++ value_text (Some item.value))
 
 abbrev pub four_text : (html : Bool) → List (Option Item) → List ℕ
 four_text html [] = []

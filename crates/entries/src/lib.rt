@@ -22,7 +22,7 @@ pub fn put_item(buf: &mut [u8], at: usize, html: bool, item: Option<Item>) -> us
     };
     let told = put_labelled(buf, at, html, item.label);
     let next = put(buf, told, b" ");
-    let end = pages::put_value(buf, next, item.value);
+    let end = pages::put_value(buf, next, Some(item.value));
     put_close(buf, end, html)
 }
 

@@ -1,5 +1,5 @@
 -- The lines of a telling, as a text or as one page (EXPLAIN 2).
-use Rattle.std.specs.Prelude.{ℕ, ◌/◌, Bool, cond, List, [], ◌∷◌, ◌++◌, eqb}
+use Rattle.std.specs.Prelude.{ℕ, ◌/◌, Bool, Option, Some, None, cond, List, [], ◌∷◌, ◌++◌, eqb}
 use Rattle.letters.specs.Letters.{bytes}
 use Rattle.text.specs.Digits.{digits}
 use Rattle.sentences.specs.Figures.{decimal, leva, hex_two}
@@ -44,16 +44,17 @@ abbrev pub bytes_from : ℕ → ℕ → List ℕ
 bytes_from least most = hex_two least ++ bytes " to " ++ hex_two most
 
 -- a value
-abbrev pub value_text : Value → List ℕ
-value_text (Number n) = decimal n
-value_text (Sum n) = leva n
-value_text (Thousandths n) = thousandths n
-value_text (Digits width number) = digits width number
-value_text (Letter b) = b ∷ []
-value_text (Byte b) = hex_two b
-value_text (Bytes least most) = bytes_from least most
-value_text InData = bytes "09, 0a, 10, 20 to ff"
-value_text (Said saying) = saying_word saying
+abbrev pub value_text : Option Value → List ℕ
+value_text None = []
+value_text (Some (Number n)) = decimal n
+value_text (Some (Sum n)) = leva n
+value_text (Some (Thousandths n)) = thousandths n
+value_text (Some (Digits width number)) = digits width number
+value_text (Some (Letter b)) = b ∷ []
+value_text (Some (Byte b)) = hex_two b
+value_text (Some (Bytes least most)) = bytes_from least most
+value_text (Some InData) = bytes "09, 0a, 10, 20 to ff"
+value_text (Some (Said saying)) = saying_word saying
 
 -- the heading of a frame: its offset, its name where it has one, and what became of it; in a page with a section and its table
 abbrev pub sectioned : (html : Bool) → Kind → List ℕ

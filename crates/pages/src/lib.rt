@@ -92,10 +92,13 @@ pub fn put_close(buf: &mut [u8], at: usize, html: bool) -> usize
     put_either(buf, at, html, b"</td></tr>\n", b"\n")
 }
 
-// A value.
-pub fn put_value(buf: &mut [u8], at: usize, value: Value) -> usize
+// A value; nothing where there is none.
+pub fn put_value(buf: &mut [u8], at: usize, value: Option<Value>) -> usize
     ensures { Put buf.old at (value_text value) buf.new result }
 {
+    let Some(value) = value else {
+        return put(buf, at, b"");
+    };
     match value {
         Value::Number(n) => put_number(buf, at, n),
         Value::Sum(n) => put_leva(buf, at, n),
