@@ -1,5 +1,5 @@
 -- LINE 1.1, 2.1: the numbers of what `printer` holds open.
-use Rattle.std.specs.Prelude.{ℕ, ◌+◌, ◌-◌, Bool, false, Option, Some, None, is_some, option_map, cond, ltb, ℤ, pos}
+use Rattle.std.specs.Prelude.{ℕ, ◌+◌, ◌-◌, Bool, false, Option, Some, None, is_some, option_map, cond, eqb, ltb, ℤ, pos}
 use Rattle.options.specs.declared.Asked.{Asked}
 use Rattle.options.specs.declared.Ends.{Ends}
 use Rattle.options.specs.declared.Recordings.{Recordings}
@@ -8,20 +8,30 @@ abbrev pub place_before : Option Recordings → ℕ
 place_before None = 0
 place_before (Some named) = named.first - 1
 
+-- the program's own name, which has place 0, is no recording
+abbrev pub last_of : Option Recordings → Option ℕ
+last_of None = None
+last_of (Some named) = cond (eqb named.last 0) None (Some named.last)
+
 -- a LINE, or standard input, 0, and standard output, 1; the last recording, or none. The first comes next
 abbrev pub ends_of : Asked → (line newest tape : ℤ) → Ends
 ends_of asked line newest tape =
     let online = is_some asked.line in
+    let last = last_of asked.recordings in
     record {
       input = cond online line (pos 0);
       output = cond online line (pos 1);
       old = None;
-      newest = option_map (λ named. newest) asked.recordings;
-      tape = option_map (λ named. tape) asked.recordings;
+      newest = option_map (λ n. newest) last;
+      tape = option_map (λ n. tape) last;
       place = place_before asked.recordings;
-      last = option_map (λ named. named.last) asked.recordings;
+      last = last;
       online = online;
     }
+
+-- LINE 2.1: a recording that is kept is replayed first
+abbrev pub replays : Ends → Bool
+replays ends = is_some ends.last
 
 -- LINE 2.1: recordings stand behind each other
 abbrev pub is_before : (place : ℕ) → Option ℕ → Bool

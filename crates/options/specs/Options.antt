@@ -1,5 +1,5 @@
 -- LINE 1: what the arguments of `printer` ask for.
-use Rattle.std.specs.Prelude.{ℕ, ◌+◌, Option, Some, None, Bool, false, unwrap_or, cond, List, [], ◌∷◌, eqb, ltb, length, get_or}
+use Rattle.std.specs.Prelude.{ℕ, ◌+◌, Option, Some, None, unwrap_or, cond, List, [], ◌∷◌, eqb, ltb, length, get_or}
 use Rattle.options.specs.declared.Argument.{Argument}
 use Rattle.options.specs.declared.Argument.TheVariants.{Sign, Name, Neither}
 use Rattle.options.specs.declared.Asked.{Asked}
@@ -17,21 +17,17 @@ argument_of s =
 abbrev pub none_asked : Asked
 none_asked = record { line = None; recordings = None }
 
--- LINE 1.1: -l stands first, and LINE behind it; every name behind that is a RECORDING
+-- LINE 1.1: -l stands first, and LINE behind it; every name behind that is a RECORDING. The program's own name, which has place 0, is none
 abbrev pub signed_at : (place : ℕ) → Option Asked
 signed_at place = cond (eqb place 1) (Some (record { line = Some 2; recordings = None })) None
 
-abbrev pub is_line : Option ℕ → (place : ℕ) → Bool
-is_line None place = false
-is_line (Some line) place = eqb line place
-
 abbrev pub first_of : Option Recordings → (place : ℕ) → ℕ
 first_of None place = place
-first_of (Some named) place = named.first
+first_of (Some named) place = cond (eqb named.first 0) place named.first
 
 abbrev pub named_at : Asked → (place : ℕ) → Asked
 named_at asked place =
-    cond (is_line asked.line place) asked
+    cond (eqb place (unwrap_or asked.line 0)) asked
     (record { line = asked.line; recordings = Some (record { first = first_of asked.recordings place; last = place }) })
 
 abbrev pub asked_with : Option Asked → (place : ℕ) → Argument → Option Asked
@@ -40,7 +36,7 @@ asked_with (Some asked) place Sign = signed_at place
 asked_with (Some asked) place Name = Some (named_at asked place)
 asked_with (Some asked) place Neither = None
 
--- -l alone is of no form. The program's own name is counted, and has place 0.
+-- -l alone is of no form. The program's own name is counted.
 abbrev pub asked_of : Option Asked → (count : ℕ) → Option Asked
 asked_of None count = None
 asked_of (Some asked) count = cond (ltb (unwrap_or asked.line 0) count) (Some asked) None

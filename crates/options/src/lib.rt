@@ -2,8 +2,8 @@
 #![tactic(auto)]
 
 ghost use Rattle.std.specs.Prelude.{◌≡◌};
-ghost use Rattle.options.specs.Options.{argument_of, none_asked, named_at, asked_with, asked_of};
-ghost use Rattle.options.specs.Ends.{ends_of, names_left, next_place, next_of};
+ghost use Rattle.options.specs.Options.{argument_of, none_asked, first_of, named_at, asked_with, asked_of};
+ghost use Rattle.options.specs.Ends.{last_of, ends_of, replays, names_left, next_place, next_of};
 
 // LINE 1.2: the sign before a LINE; a name; or neither.
 #[derive(Clone, Copy, PartialEq, Eq)]
@@ -79,17 +79,27 @@ pub fn asked_with(asked: Option<Asked>, place: usize, a: Argument) -> Option<Ask
     }
 }
 
-// LINE, or one RECORDING more.
+// LINE, or one RECORDING more; the program's own name is none.
 fn named(asked: Asked, place: usize) -> Asked
     ensures { result ≡ named_at asked place }
 {
-    if asked.line == Some(place) {
+    if place == asked.line.unwrap_or(0) {
         return asked;
     }
-    let first = asked.recordings.map_or(place, |named| named.first);
+    let first = first_of(asked.recordings, place);
     Asked {
         recordings: Some(Recordings { first, last: place }),
         ..asked
+    }
+}
+
+// The place of the first recording, or where there is none yet this one.
+fn first_of(recordings: Option<Recordings>, place: usize) -> usize
+    ensures { result ≡ first_of recordings place }
+{
+    match recordings {
+        Some(named) if named.first != 0 => named.first,
+        _ => place,
     }
 }
 
@@ -107,18 +117,36 @@ pub fn ends_of(asked: Asked, line: i32, newest: i32, tape: i32) -> Ends
     ensures { result ≡ ends_of asked line newest tape }
 {
     let online = asked.line.is_some();
+    let last = last_of(asked.recordings);
     Ends {
         input: if online { line } else { 0 },
         output: if online { line } else { 1 },
         old: None,
-        newest: asked.recordings.map(|_| newest),
-        tape: asked.recordings.map(|_| tape),
+        newest: last.map(|_| newest),
+        tape: last.map(|_| tape),
         place: asked
             .recordings
             .map_or(0, |named| named.first.saturating_sub(1)),
-        last: asked.recordings.map(|named| named.last),
+        last,
         online,
     }
+}
+
+// The place of the last recording: the program's own name, which has place 0, is none.
+fn last_of(recordings: Option<Recordings>) -> Option<usize>
+    ensures { result ≡ last_of recordings }
+{
+    match recordings {
+        Some(named) if named.last != 0 => Some(named.last),
+        _ => None,
+    }
+}
+
+// Whether there is a recording to replay before the line is heard.
+pub fn replays(ends: Ends) -> bool
+    ensures { result ≡ replays ends }
+{
+    ends.last.is_some()
 }
 
 // Whether a recording is named behind the one that is replayed.

@@ -8,7 +8,7 @@ ghost use Rattle.options.specs.Ends.{names_left};
 ghost use Rattle.passing.specs.Passing.{PartRead, Answered};
 
 use keeping::{Next, Source, Stage};
-use opening::{Held, INPUT, OUTPUT};
+use opening::{Held, INPUT, OUTPUT, TAPE};
 use options::Ends;
 use std::fs::File;
 use std::io::{Error, IsTerminal, Read, Result, Seek, SeekFrom, Stderr, Write};
@@ -62,12 +62,9 @@ fn is_terminal(held: &Held, number: Option<i32>, got: Result<usize>) -> bool {
     file_at(held, number).is_ok_and(|file| file.is_terminal())
 }
 
-// The file that has this number, where there is one.
+// The file that has this number. Where there is no number it is the one that is kept, as for every number that has no file of its own.
 fn file_at(held: &Held, number: Option<i32>) -> Result<&File> {
-    match number {
-        Some(number) => opening::file_at(held, number),
-        None => Err(Error::other("nothing is open there")),
-    }
+    opening::file_at(held, number.unwrap_or(TAPE))
 }
 
 // A read that failed says why.
@@ -88,7 +85,7 @@ fn told(errors: Stderr, source: Source, got: Result<usize>) {
 fn act(held: &Held, ends: Ends, next: Next, heard: u64, bytes: &[u8]) -> bool {
     match next {
         Next::Silent => replayed(held, ends, heard, bytes.len()),
-        Next::Answer => keep(held, ends.tape, bytes),
+        Next::Answer => keep(held, kept_in(ends), bytes),
         Next::Closed => system::write(&held.errors, b"error: the line is closed\n"),
         Next::Anew | Next::Begin | Next::Wait | Next::End => true,
         Next::Broken => false,
@@ -119,6 +116,11 @@ fn report(held: &Held, ends: Ends, heard: u64) {
 fn end_of(held: &Held, number: Option<i32>) -> Option<u64> {
     let mut file = file_at(held, number).ok()?;
     file.seek(SeekFrom::End(0)).ok()
+}
+
+// The number of the recording that is kept, where there is one: no number is below 0.
+fn kept_in(ends: Ends) -> Option<i32> {
+    ends.tape.filter(|number| 0 <= *number)
 }
 
 // Bytes of the line go into the recording before they are heard.
@@ -161,7 +163,7 @@ pub fn answer(held: &Held, ends: Ends, stage: Stage, out: &[u8], given: usize) -
     let Some(out) = out.get(..given) else {
         return false;
     };
-    is_safe(held, ends.tape, stage.heard) && write(held, ends, out)
+    is_safe(held, kept_in(ends), stage.heard) && write(held, ends, out)
 }
 
 // On its device, and with nothing else in it.

@@ -36,7 +36,7 @@ fn run<R: Env + Files<File = File>>(rt: &R, held: &mut Held, mut ends: Ends) {
     let mut out = out_room();
     let mut bytes = part_room();
     let mut kept = kept::fresh_kept();
-    let mut stage = keeping::first_stage(ends.last.is_some());
+    let mut stage = keeping::first_stage(options::replays(ends));
     for _ in 0..i64::MAX {
         stage = passing::read_part(&*held, ends, stage, &mut bytes);
         if stage.over {
