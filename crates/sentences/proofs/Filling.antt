@@ -82,7 +82,7 @@ unfolding width_of
 width_one zero n h = refl
 width_one (suc more) n h = rw (lt-ltb n 10 h)
 
-width_next : (more n : ℕ) → 0 < more → 10 ≤ n → width_of more n ≡ 1 + width_of (more - 1) (n / 10)
+pub width_next : (more n : ℕ) → 0 < more → 10 ≤ n → width_of more n ≡ 1 + width_of (more - 1) (n / 10)
 unfolding width_of
 width_next zero n h g = absurd (omega arith)
 width_next (suc more) n h g =

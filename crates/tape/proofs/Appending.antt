@@ -31,8 +31,8 @@ module _ (l xs ys : List ℕ) (at : ℕ) where
 
 -- a command listed: its head, then its data
 module _ (call : Call) (frame l : List ℕ) (at : ℕ) where
-  module _ (s c k n a : ℕ) (l1 l2 : List ℕ) (e : call ≡ Order s c k) (size : length frame ≡ 256) (en : n ≡ min k 253)
-      (ea : a ≡ min (at + 3) (length l)) (e1 : l1 ≡ sets l at (s ∷ c ∷ (n % 256) ∷ []))
+  module _ (s c k n a b : ℕ) (l1 l2 : List ℕ) (e : call ≡ Order s c k) (size : length frame ≡ 256) (en : n ≡ min k 253)
+      (ea : a ≡ min (at + 3) (length l)) (e1 : l1 ≡ sets l at (s ∷ c ∷ (n % 256) ∷ [])) (eb : b ≡ min (a + length (take (n + 3 - 3) (drop 3 frame))) (length l1))
       (e2 : l2 ≡ sets l1 a (take (n + 3 - 3) (drop 3 frame))) where
     abbrev part : List ℕ
     part = take (n + 3 - 3) (drop 3 frame)
@@ -53,5 +53,9 @@ module _ (call : Call) (frame l : List ℕ) (at : ℕ) where
         ap (λ z. head ++ z) is-part ∙ ap (λ z. s ∷ c ∷ (z % 256) ∷ take k (drop 3 frame)) size_is
         ∙ sym (append-nil (s ∷ c ∷ (length (take k (drop 3 frame)) % 256) ∷ take k (drop 3 frame))) ∙ sym (ap (λ z. listing (carried_by z frame)) e)
 
-    pub list_order : l2 ≡ sets l at (listing (carried_by call frame))
-    list_order = e2 ∙ ap (λ z. sets l1 z part) ea ∙ ap (λ z. sets z (min (at + 3) (length l)) part) e1 ∙ joined l head part at ∙ ap (sets l at) is-listed
+    pub list_order : (b ≡ min (at + length (listing (carried_by call frame))) (length l)) × (l2 ≡ sets l at (listing (carried_by call frame)))
+    list_order = (
+      eb ∙ ap (λ z. min (z + length part) (length l1)) ea ∙ ap (λ z. min (min (at + 3) (length l) + length part) (length z)) e1 ∙ joined_size l head part at
+          ∙ ap (λ z. min (at + length z) (length l)) is-listed,
+      e2 ∙ ap (λ z. sets l1 z part) ea ∙ ap (λ z. sets z (min (at + 3) (length l)) part) e1 ∙ joined l head part at ∙ ap (sets l at) is-listed,
+    )
