@@ -68,7 +68,7 @@ fn put_plain(buf: &mut [u8], s: &[u8]) -> usize
 fn is_mark(marked: bool, b: u8) -> bool
     ensures { result ≡ (not marked && eqb b 0x10) }
 {
-    !marked & (b == MARK)
+    !marked && b == MARK
 }
 
 // The byte that one stands for.

@@ -30,7 +30,9 @@ pub struct Part {
     pub listed: usize,
 }
 
-// The bytes of a part, with the sheet held by value.
+// The bytes of a part, with the sheet held by value. Built into its caller, with the loop: what that does not look at, as `printer` the
+// display's buffer, is not written there.
+#[inline(always)]
 pub fn hear_part(
     kept: Kept,
     frame: &mut [u8; FRAME_ROOM],
