@@ -118,7 +118,7 @@ fn end_of(held: &Held, number: Option<i32>) -> Option<u64> {
     file.seek(SeekFrom::End(0)).ok()
 }
 
-// The number of the recording that is kept, where there is one: no number is below 0.
+// The number of the recording that is kept, where there is one: a number below 0 is none.
 fn kept_in(ends: Ends) -> Option<i32> {
     ends.tape.filter(|number| 0 <= *number)
 }

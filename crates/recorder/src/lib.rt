@@ -30,8 +30,8 @@ pub struct Part {
     pub listed: usize,
 }
 
-// The bytes of a part, with the sheet held by value. Built into its caller, with the loop: what that does not look at, as `printer` the
-// display's buffer, is not written there.
+// The bytes of a part, with the sheet held by value. Built into its caller, so that the compiler leaves out what that does not look at, as
+// `printer` the display's buffer (PERFORMANCE, Today's forms).
 #[inline(always)]
 pub fn hear_part(
     kept: Kept,

@@ -11,7 +11,7 @@ use wire::ANSWER_ROOM;
 
 // The bytes of a part, call by call: what the device gives back goes into `out`, the commands carried out into `orders`, as far as each
 // reaches. With less than 217 bytes, 512 lines or 40 bytes for the display
-// lent no byte is heard.
+// lent no byte is heard. Built into its caller for speed (PERFORMANCE, Today's forms).
 #[inline(always)]
 pub fn hear_run(
     begun: Run,
