@@ -48,7 +48,7 @@ fn play(
 ) -> Desk {
     let mut line = [0u8; LINE_ROOM];
     let mut content = [0u8; MOST_CONTENT];
-    let Ok(next) = lines::input::next_act(input, to.errors, &mut line, &mut content) else {
+    let Ok(next) = lines::input::what_came(input, to.errors, &mut line, &mut content) else {
         return desk::ended(desk);
     };
     let after = desk::read(desk, next.act);

@@ -43,7 +43,7 @@ fn play(
 ) -> Clerk {
     let mut line = [0u8; LINE_ROOM];
     let mut content = [0u8; MOST_CONTENT];
-    let Ok(next) = lines::input::next_act(input, to.errors, &mut line, &mut content) else {
+    let Ok(next) = lines::input::what_came(input, to.errors, &mut line, &mut content) else {
         return clerk::ended(clerk);
     };
     if let Ok(Act::Command { code, .. }) = next.act {

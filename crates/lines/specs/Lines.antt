@@ -1,5 +1,5 @@
 -- SCRIPTS 1: a line and its line feed, in the parts in which it is read.
-use Rattle.std.specs.Prelude.{ℕ, ◌+◌, min, ◌≤◌, ◌≡◌, true, false, cond, List, leb, length, take, Result, Ok, Err}
+use Rattle.std.specs.Prelude.{ℕ, ◌+◌, min, ◌≤◌, ◌≡◌, true, false, cond, List, leb, length, take, Option, IfSome, MatchOption, option_map, Result, Ok, Err}
 use Rattle.std.proofs.lemmas.List.Edits.{sets}
 use Rattle.text.specs.Parts.{first_at, has}
 use Rattle.script.specs.Script.{act_of, content_of}
@@ -22,16 +22,11 @@ gathered count part =
     (record { count = min (count + end) most; taken = end + 1; whole = true })
     (record { count = min (count + end) most; taken = end; whole = false })
 
--- of a line, and of what came where there is none
-abbrev pub told : {A : Type 0} → Result A A → A
-told (Ok x) = x
-told (Err x) = x
-
 -- the next line of the input, for whatever the system answers: it says the line's bytes, at most one too many, and they go to the front of the room lent
-pub record LineRead (before after : List ℕ) (count : ℕ) : Type 0 where
+pub record LineRead (before after : List ℕ) (r : Option ℕ) : Type 0 where
   pub bytes : List ℕ
   pub most : length bytes ≤ 1201
-  pub size : count ≡ length bytes
+  pub count : IfSome r (λ n. n ≡ length bytes)
   pub stands : after ≡ sets before 0 bytes
 
 -- SCRIPTS 6: what it says; of more than 1,200 bytes, that it is too long
@@ -42,7 +37,26 @@ abbrev pub content_in : (count : ℕ) → (line content : List ℕ) → List ℕ
 content_in count line content =
     cond (leb count 1200) (sets content 0 (content_of (act_of (take count line) (length content)) (behind (take count line)))) content
 
-pub record ActRead (line line_after content content_after : List ℕ) (r : Next) : Type 0 where
-  pub typed : LineRead line line_after r.count
+-- where there is none, nothing is read into the room for data
+pub record ActRead (line line_after content content_after : List ℕ) (r : Option Next) : Type 0 where
+  pub typed : LineRead line line_after (option_map (λ next. next.count) r)
+  pub act : IfSome r (λ next. next.act ≡ act_in next.count line_after content)
+  pub read : MatchOption r (content_after ≡ content) (λ next. content_after ≡ content_in next.count line_after content)
+
+-- of a line, and of what came where there is none
+abbrev pub told : {A : Type 0} → Result A A → A
+told (Ok x) = x
+told (Err x) = x
+
+-- how many bytes came of the next line, also where there is none
+pub record BytesCame (before after : List ℕ) (count : ℕ) : Type 0 where
+  pub bytes : List ℕ
+  pub most : length bytes ≤ 1201
+  pub size : count ≡ length bytes
+  pub stands : after ≡ sets before 0 bytes
+
+-- what they say, and their data in the room for it
+pub record ActCame (line line_after content content_after : List ℕ) (r : Next) : Type 0 where
+  pub typed : BytesCame line line_after r.count
   pub act : r.act ≡ act_in r.count line_after content
   pub read : content_after ≡ content_in r.count line_after content
