@@ -37,25 +37,25 @@ abbrev pub content_in : (count : ℕ) → (line content : List ℕ) → List ℕ
 content_in count line content =
     cond (leb count 1200) (sets content 0 (content_of (act_of (take count line) (length content)) (behind (take count line)))) content
 
--- where there is none, nothing is read into the room for data
+-- SCRIPTS 1, 6: a line, what it says, and its data in the room for it; where there is none, nothing is read into that room
 pub record ActRead (line line_after content content_after : List ℕ) (r : Option Next) : Type 0 where
   pub typed : LineRead line line_after (option_map (λ next. next.count) r)
   pub act : IfSome r (λ next. next.act ≡ act_in next.count line_after content)
   pub read : MatchOption r (content_after ≡ content) (λ next. content_after ≡ content_in next.count line_after content)
 
--- of a line, and of what came where there is none
+-- SCRIPTS 1: of a line, and of what came where there is none
 abbrev pub told : {A : Type 0} → Result A A → A
 told (Ok x) = x
 told (Err x) = x
 
--- how many bytes came of the next line, also where there is none
+-- SCRIPTS 1: what came of the next line, whether there is one or not: its bytes, at most one too many, go to the front of the room lent
 pub record BytesCame (before after : List ℕ) (count : ℕ) : Type 0 where
   pub bytes : List ℕ
   pub most : length bytes ≤ 1201
   pub size : count ≡ length bytes
   pub stands : after ≡ sets before 0 bytes
 
--- what they say, and their data in the room for it
+-- SCRIPTS 6: what these bytes say, and their data in the room for it, whether there is a line or not
 pub record ActCame (line line_after content content_after : List ℕ) (r : Next) : Type 0 where
   pub typed : BytesCame line line_after r.count
   pub act : r.act ≡ act_in r.count line_after content
